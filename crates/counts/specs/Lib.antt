@@ -1,0 +1,5 @@
+pub mod Wrap
+pub mod Movement
+pub mod Divide
+pub mod Clamp
+pub mod Bit

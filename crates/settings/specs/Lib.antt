@@ -1,0 +1,4 @@
+pub mod Refusal
+pub mod Ranges
+pub mod Gear
+pub mod Check

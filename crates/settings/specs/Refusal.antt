@@ -1,0 +1,23 @@
+-- 01, "Refused words, ticks and buffers": the number of each refusal, with the trade word that 01 has for it.
+-- Assumes nothing.
+use Prim.Native.Nat.{ℕ}
+use Rattle.settings.specs.declared.Refusal.{Refusal}
+use Rattle.settings.specs.declared.Refusal.the-variants.{OutOfSequence, UnknownLayout, OutOfRange, ChecksumMismatch, LimitsCrossed, OutOfReach, DriveActive, NoSettings, BufferTooShort}
+use Rattle.settings.specs.declared.Verdict.{Verdict}
+use Rattle.settings.specs.declared.Verdict.the-variants.{Accepted, Refused}
+
+abbrev pub numberOf : Refusal → ℕ
+numberOf OutOfSequence = 1  -- out of turn
+numberOf UnknownLayout = 2  -- strange layout
+numberOf OutOfRange = 3  -- out of range
+numberOf ChecksumMismatch = 4  -- bad sum
+numberOf LimitsCrossed = 5  -- stops crossed
+numberOf OutOfReach = 6  -- out of reach
+numberOf DriveActive = 7  -- axis live
+numberOf NoSettings = 8  -- no sheet
+numberOf BufferTooShort = 9  -- short buffer
+
+-- "an accepted word, a filled buffer and a tick not refused carry 0"
+abbrev pub verdictNumber : Verdict → ℕ
+verdictNumber Accepted = 0
+verdictNumber (Refused r) = numberOf r

@@ -1,0 +1,104 @@
+// The settings of an axis (01: the sheet), what an acceptable set of them is, and why one is refused.
+//
+// Settings are plain data: every value of every field is answered, and only `check` says whether they may be used.
+ghost use mathlib.Core.Path.{_≡_};
+ghost use Rattle.settings.specs.Refusal.{numberOf};
+ghost use Rattle.settings.specs.Check.{limitsApart, limitsVerdict, verdictOf};
+
+pub mod gear;
+pub mod ranges;
+
+// Settings of one axis, by CiA 402's names. Positions are in user units, torques in thousandths of the rated torque.
+pub struct Settings {
+    // Homing method.
+    pub method: u32,
+    // Homing speeds: fast while searching for a switch, slow while leaving or finding its edge.
+    pub fast: u32,
+    pub slow: u32,
+    // Home offset.
+    pub offset: i32,
+    // Gear ratio.
+    pub numerator: u32,
+    pub denominator: u32,
+    // Software position limits (01: stops).
+    pub lower: i32,
+    pub upper: i32,
+    // Maximum torque.
+    pub maximum: u32,
+    // Positive and negative torque limits, as magnitudes: limit sets 1 and 2.
+    pub positive1: u32,
+    pub negative1: u32,
+    pub positive2: u32,
+    pub negative2: u32,
+    // Quick stop option code.
+    pub option: u32,
+    // Rated torque, in millinewton metres.
+    pub rated: u32,
+}
+
+// Why a settings word, settings, a tick or a lent buffer is refused (01: refused words, ticks and buffers).
+pub enum Refusal {
+    OutOfSequence,
+    UnknownLayout,
+    OutOfRange,
+    ChecksumMismatch,
+    LimitsCrossed,
+    OutOfReach,
+    DriveActive,
+    NoSettings,
+    BufferTooShort,
+}
+
+pub enum Verdict {
+    Accepted,
+    Refused(Refusal),
+}
+
+// The refusal's number in 01.
+pub fn number(refusal: Refusal) -> u32
+    ensures { λ r. ⌜ r ≡ numberOf refusal ⌝ }
+{
+    match refusal {
+        Refusal::OutOfSequence => 1,
+        Refusal::UnknownLayout => 2,
+        Refusal::OutOfRange => 3,
+        Refusal::ChecksumMismatch => 4,
+        Refusal::LimitsCrossed => 5,
+        Refusal::OutOfReach => 6,
+        Refusal::DriveActive => 7,
+        Refusal::NoSettings => 8,
+        Refusal::BufferTooShort => 9,
+    }
+}
+
+fn limits_apart(s: Settings) -> bool
+    ensures { λ r. ⌜ r ≡ limitsApart s ⌝ }
+{
+    s.lower < s.upper
+}
+
+// Tests 5 and 6: the position limits, of settings whose fields have been tested already.
+pub fn check_limits(s: Settings) -> Verdict
+    ensures { λ r. ⌜ r ≡ limitsVerdict s ⌝ }
+{
+    if limits_apart(s) {
+        if gear::in_reach(s) {
+            Verdict::Accepted
+        } else {
+            Verdict::Refused(Refusal::OutOfReach)
+        }
+    } else {
+        Verdict::Refused(Refusal::LimitsCrossed)
+    }
+}
+
+// Tests 3, 5 and 6: whether settings may be used.
+pub fn check(s: Settings) -> Verdict
+    ensures { λ r. ⌜ r ≡ verdictOf s ⌝ }
+{
+    if ranges::in_range(s) {
+        check_limits(s)
+    } else {
+        Verdict::Refused(Refusal::OutOfRange)
+    }
+}
