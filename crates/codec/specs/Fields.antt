@@ -1,0 +1,42 @@
+-- 01, "The sheet": what each kind of word may carry.
+-- Assumes nothing.
+use Prim.Native.Nat.{ℕ, _/_, _%_, _^_}
+use mathlib.Core.Bool.{Bool, true, false, _&&_}
+use mathlib.Core.List.{List, [], _∷_}
+use lib.Dec.{eqb}
+use lib.ListN.{getD}
+use Rattle.settings.specs.Ranges.{methodOk, speedOk, ratioOk, torqueOk, optionOk, ratedOk}
+
+-- "start (data 1)"
+abbrev pub startOk : ℕ → Bool
+startOk x = eqb x 1
+
+-- offset and stops: every 28 bits are some number's
+abbrev pub anyData : ℕ → Bool
+anyData x = true
+
+-- "positive limit in the low 14 bits, negative (as a magnitude) in the high 14, each 0 to 3000"
+abbrev pub torqueLimitsOk : ℕ → Bool
+torqueLimitsOk x = torqueOk (x % 2 ^ 14) && torqueOk (x / 2 ^ 14)
+
+-- the test of kind k's data stands at place k, from 0 on
+abbrev pub fields : List (ℕ → Bool)
+fields =
+    startOk
+    ∷ methodOk
+    ∷ speedOk
+    ∷ speedOk
+    ∷ anyData
+    ∷ ratioOk
+    ∷ ratioOk
+    ∷ anyData
+    ∷ anyData
+    ∷ torqueOk
+    ∷ torqueLimitsOk
+    ∷ torqueLimitsOk
+    ∷ optionOk
+    ∷ ratedOk
+    ∷ []
+
+unfoldable pub fieldOk : ℕ → ℕ → Bool
+fieldOk kind x = getD fields kind (λ y. false) x

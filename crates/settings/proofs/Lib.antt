@@ -1,0 +1,4 @@
+pub mod First
+pub mod Numbers
+pub mod Within
+pub mod Guards

@@ -1,0 +1,67 @@
+-- What the range test says of each field, and back.
+-- Assumes nothing.
+use mathlib.Core.Path.{_≡_, refl}
+use mathlib.Core.Bool.{Bool, true, false, _&&_, false≢true}
+use Rattle.settings.specs.declared.Settings.{Settings}
+use Rattle.settings.specs.Ranges.{methodOk, speedOk, ratioOk, positionOk, torqueOk, optionOk, ratedOk, homingOk, gearOk, positionLimitsOk, torquesOk, driveOk, inRange}
+
+pub both : (a b : Bool) → a && b ≡ true → (a ≡ true) × (b ≡ true)
+both true b e = (refl, e)
+both false b e = absurd (false≢true e)
+
+pub record Within (s : Settings) : Type 0 where
+  pub method : methodOk (s .method) ≡ true
+  pub fast : speedOk (s .fast) ≡ true
+  pub slow : speedOk (s .slow) ≡ true
+  pub offset : positionOk (s .offset) ≡ true
+  pub numerator : ratioOk (s .numerator) ≡ true
+  pub denominator : ratioOk (s .denominator) ≡ true
+  pub lower : positionOk (s .lower) ≡ true
+  pub upper : positionOk (s .upper) ≡ true
+  pub maximum : torqueOk (s .maximum) ≡ true
+  pub positive1 : torqueOk (s .positive1) ≡ true
+  pub negative1 : torqueOk (s .negative1) ≡ true
+  pub positive2 : torqueOk (s .positive2) ≡ true
+  pub negative2 : torqueOk (s .negative2) ≡ true
+  pub option : optionOk (s .option) ≡ true
+  pub rated : ratedOk (s .rated) ≡ true
+
+pub within : (s : Settings) → inRange s ≡ true → Within s
+unfolding inRange
+within s e =
+    let drive = both (homingOk s && gearOk s && positionLimitsOk s && torquesOk s) (driveOk s) e in
+    let torques = both (homingOk s && gearOk s && positionLimitsOk s) (torquesOk s) (drive .0) in
+    let limits = both (homingOk s && gearOk s) (positionLimitsOk s) (torques .0) in
+    let gear = both (homingOk s) (gearOk s) (limits .0) in
+    let slow = both (methodOk (s .method) && speedOk (s .fast)) (speedOk (s .slow)) (gear .0) in
+    let fast = both (methodOk (s .method)) (speedOk (s .fast)) (slow .0) in
+    let denominator = both (positionOk (s .offset) && ratioOk (s .numerator)) (ratioOk (s .denominator)) (gear .1) in
+    let numerator = both (positionOk (s .offset)) (ratioOk (s .numerator)) (denominator .0) in
+    let upper = both (positionOk (s .lower)) (positionOk (s .upper)) (limits .1) in
+    let negative2 = both (torqueOk (s .maximum) && torqueOk (s .positive1) && torqueOk (s .negative1) && torqueOk (s .positive2)) (torqueOk (s .negative2)) (torques .1) in
+    let positive2 = both (torqueOk (s .maximum) && torqueOk (s .positive1) && torqueOk (s .negative1)) (torqueOk (s .positive2)) (negative2 .0) in
+    let negative1 = both (torqueOk (s .maximum) && torqueOk (s .positive1)) (torqueOk (s .negative1)) (positive2 .0) in
+    let positive1 = both (torqueOk (s .maximum)) (torqueOk (s .positive1)) (negative1 .0) in
+    let rated = both (optionOk (s .option)) (ratedOk (s .rated)) (drive .1) in
+    record {
+      method = fast .0;
+      fast = fast .1;
+      slow = slow .1;
+      offset = numerator .0;
+      numerator = numerator .1;
+      denominator = denominator .1;
+      lower = upper .0;
+      upper = upper .1;
+      maximum = positive1 .0;
+      positive1 = positive1 .1;
+      negative1 = negative1 .1;
+      positive2 = positive2 .1;
+      negative2 = negative2 .1;
+      option = rated .0;
+      rated = rated .1;
+    }
+
+pub whole : (s : Settings) → Within s → inRange s ≡ true
+unfolding inRange
+whole s w =
+    rw (w .method, w .fast, w .slow, w .offset, w .numerator, w .denominator, w .lower, w .upper, w .maximum, w .positive1, w .negative1, w .positive2, w .negative2, w .option, w .rated)
