@@ -22,7 +22,7 @@ drive-ok-requires c κs = search needs
 
 returns : tie.Need-returns
 unfolding inRange
-returns c = cc
+returns c = rw (c .before .before .before .before .homing-ok .ensures, c .before .before .before .gear-ok .ensures, c .before .before .position-limits-ok .ensures, c .before .torques-ok .ensures, c .drive-ok .ensures)
 
 pub in-range-spec : {M : Type 1} → statement M
 in-range-spec =

@@ -20,7 +20,7 @@ torque-ok-requires-5 : tie.Need-torque-ok-requires-5
 torque-ok-requires-5 c κs = search needs
 
 returns : tie.Need-returns
-returns c = cc
+returns c = rw (c .before .before .before .before .torque-ok .ensures, c .before .before .before .torque-ok2 .ensures, c .before .before .torque-ok3 .ensures, c .before .torque-ok4 .ensures, c .torque-ok5 .ensures)
 
 pub torques-ok-spec : {M : Type 1} → statement M
 torques-ok-spec =

@@ -1,0 +1,82 @@
+-- 01, "Refused words": what one settings word does to the pending settings (01: the unfinished sheet).
+-- Assumes nothing.
+use Prim.Native.Nat.{ℕ, _+_}
+use mathlib.Core.Bool.{Bool, cond, not, _||_}
+use mathlib.Core.List.{_∷_}
+use lib.Dec.{eqb, ltb}
+use lib.ListN.{set, replicate}
+use Rattle.settings.specs.declared.Settings.{Settings}
+use Rattle.settings.specs.declared.Refusal.{Refusal}
+use Rattle.settings.specs.declared.Refusal.the-variants.{OutOfSequence, UnknownLayout, OutOfRange, ChecksumMismatch}
+use Rattle.settings.specs.declared.Verdict.{Verdict}
+use Rattle.settings.specs.declared.Verdict.the-variants.{Accepted}
+use Rattle.settings.specs.declared.Verdict.the-variants as verdict
+use Rattle.settings.specs.Refusal.{numberOf}
+use Rattle.settings.specs.Check.{limitsVerdict}
+use Rattle.reader.specs.declared.Pending.{Pending}
+use Rattle.reader.specs.declared.Outcome.{Outcome}
+use Rattle.reader.specs.declared.Outcome.the-variants.{Refused, Stored, Complete}
+use Rattle.reader.specs.declared.Reading.{Reading}
+use Rattle.words.specs.Word.{kindOf, dataOf}
+use Rattle.reader.specs.Fields.{fieldOk}
+use Rattle.reader.specs.Decode.{settingsOf}
+use Rattle.words.specs.Encode.{checksum}
+
+-- nothing pending
+abbrev pub emptyPending : Pending
+emptyPending = record { count = 0; values = replicate 14 0 }
+
+-- a start word has come
+abbrev pub started : Pending
+started = record { count = 1; values = 1 ∷ replicate 13 0 }
+
+-- "Kinds come once each in rising order": the kind that is due after so many words is 0 to 13, then the end, 15 (also past 14, where
+-- no history leads)
+abbrev pub dueKind : ℕ → ℕ
+dueKind count = cond (ltb count 14) count 15
+
+-- "number; unfinished sheet emptied"
+abbrev pub refused : Refusal → Reading
+refused r = record { outcome = Refused r; pending = emptyPending }
+
+abbrev pub stored : Pending → Reading
+stored p = record { outcome = Stored; pending = p }
+
+-- an end word that meets none of 1 to 6: the settings are handed out, and the pending ones are emptied either way
+abbrev pub complete : Settings → Reading
+complete s = record { outcome = Complete s; pending = emptyPending }
+
+-- 1: "word's kind is neither the next one due nor 0"
+abbrev pub outOfSequence : Pending → ℕ → Bool
+outOfSequence p w = not (eqb (kindOf w) (dueKind (p .count)) || eqb (kindOf w) 0)
+
+-- "A start word always begins afresh, also halfway." 2: "start word's data is not 1"
+unfoldable pub startOf : ℕ → Reading
+startOf x = cond (fieldOk 0 x) (stored started) (refused UnknownLayout)
+
+-- 3: "data outside its field"
+unfoldable pub fieldOf : Pending → ℕ → ℕ → Reading
+fieldOf p kind x = cond (fieldOk kind x) (stored (record { count = kind + 1; values = set (p .values) kind x })) (refused OutOfRange)
+
+-- the settings' own verdict: 5, 6 or none
+abbrev pub judged : Settings → Verdict → Reading
+judged s Accepted = complete s
+judged s (verdict.Refused r) = refused r
+
+-- 4: "end word's data differs from the sum"; then 5 and 6
+unfoldable pub endOf : Pending → ℕ → Reading
+endOf p x =
+    cond (eqb x (checksum (p .values))) (judged (settingsOf (p .values)) (limitsVerdict (settingsOf (p .values)))) (refused ChecksumMismatch)
+
+-- "An end word is tested 1, 4, 5, 6, 7; other words 1, then 2 or 3"; 7 is the axis's
+unfoldable pub readOf : Pending → ℕ → Reading
+readOf p w =
+    cond (outOfSequence p w) (refused OutOfSequence)
+    (cond (eqb (kindOf w) 0) (startOf (dataOf w))
+    (cond (eqb (kindOf w) 15) (endOf p (dataOf w)) (fieldOf p (kindOf w) (dataOf w))))
+
+-- the number that a word is answered with, before test 7
+abbrev pub outcomeNumber : Outcome → ℕ
+outcomeNumber (Refused r) = numberOf r
+outcomeNumber Stored = 0
+outcomeNumber (Complete s) = 0

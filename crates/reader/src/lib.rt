@@ -1,0 +1,217 @@
+// Reading settings words, one at a time, into the pending settings (01: the unfinished sheet).
+use settings::Refusal;
+use settings::Settings;
+use settings::Verdict;
+use settings::ranges;
+use words::KIND;
+ghost use mathlib.Core.Path.{_≡_};
+ghost use Prim.Native.Nat.{_<_, _%_, _^_};
+ghost use Rattle.counts.specs.Wrap.{signed};
+ghost use Rattle.settings.specs.Check.{limitsVerdict};
+ghost use Rattle.reader.specs.Fields.{torqueLimitsOk, fieldOk};
+ghost use Rattle.reader.specs.Decode.{settingsOf};
+ghost use Rattle.words.specs.Encode.{checksum};
+ghost use Rattle.reader.specs.Read.{emptyPending, dueKind, refused, startOf, fieldOf, judged, endOf, readOf};
+
+// The words that have come since the last start word: how many, and the data of each in order, 0 where none has come yet.
+pub struct Pending {
+    pub count: u32,
+    pub values: [u32; 14],
+}
+
+// What a word came to.
+pub enum Outcome {
+    Refused(Refusal),
+    // The word's data is pending now.
+    Stored,
+    // An end word closed these settings. Whether they become active is the axis's to say.
+    Complete(Settings),
+}
+
+// What a word came to, and what is pending after it.
+pub struct Reading {
+    pub outcome: Outcome,
+    pub pending: Pending,
+}
+
+fn refuse(refusal: Refusal) -> Reading
+    ensures { λ r. ⌜ r ≡ refused refusal ⌝ }
+{
+    Reading {
+        outcome: Outcome::Refused(refusal),
+        pending: Pending::empty(),
+    }
+}
+
+fn start(value: u32) -> Reading
+    ensures { λ r. ⌜ r ≡ startOf value ⌝ }
+{
+    if field_ok(0, value) {
+        Reading {
+            outcome: Outcome::Stored,
+            pending: Pending {
+                count: 1,
+                values: [1, 0, 0, 0, 0, 0, 0, 0, 0, 0, 0, 0, 0, 0],
+            },
+        }
+    } else {
+        refuse(Refusal::UnknownLayout)
+    }
+}
+
+fn due_kind(count: u32) -> u32
+    ensures { λ r. ⌜ r ≡ dueKind count ⌝ }
+{
+    if count < 14 { count } else { 15 }
+}
+
+fn torque_limits_ok(value: u32) -> bool
+    ensures { λ r. ⌜ r ≡ torqueLimitsOk value ⌝ }
+{
+    ranges::torque_ok(value % 16384) & ranges::torque_ok(value / 16384)
+}
+
+fn field_ok(kind: u32, value: u32) -> bool
+    ensures { λ r. ⌜ r ≡ fieldOk kind value ⌝ }
+{
+    match kind {
+        0 => value == 1,
+        1 => ranges::method_ok(value),
+        2 => ranges::speed_ok(value),
+        3 => ranges::speed_ok(value),
+        4 => true,
+        5 => ranges::ratio_ok(value),
+        6 => ranges::ratio_ok(value),
+        7 => true,
+        8 => true,
+        9 => ranges::torque_ok(value),
+        10 => torque_limits_ok(value),
+        11 => torque_limits_ok(value),
+        12 => ranges::option_ok(value),
+        13 => ranges::rated_ok(value),
+        _ => false,
+    }
+}
+
+// The low 28 bits, read as signed.
+fn position(value: u32) -> i32
+    ensures { λ r. ⌜ r ≡ signed 28 (value % 2 ^ 28) ⌝ }
+{
+    let low = value % KIND;
+    if low < 134217728 {
+        low as i32
+    } else {
+        low as i32 - 268435456
+    }
+}
+
+fn decode(values: [u32; 14]) -> Settings
+    ensures { λ r. ⌜ r ≡ settingsOf values ⌝ }
+{
+    let offset = position(values[4]);
+    let lower = position(values[7]);
+    let upper = position(values[8]);
+    Settings {
+        method: values[1],
+        fast: values[2],
+        slow: values[3],
+        offset,
+        numerator: values[5],
+        denominator: values[6],
+        lower,
+        upper,
+        maximum: values[9],
+        positive1: values[10] % 16384,
+        negative1: values[10] / 16384,
+        positive2: values[11] % 16384,
+        negative2: values[11] / 16384,
+        option: values[12],
+        rated: values[13],
+    }
+}
+
+// The sum of the data, modulo 2^28.
+fn sum(values: [u32; 14]) -> u32
+    ensures { λ r. ⌜ r ≡ checksum values ⌝ }
+{
+    let mut total: u64 = 0;
+    for i in 0..14 {
+        total += values[i] as u64;
+    }
+    (total % 268435456) as u32
+}
+
+// Hands out settings whose position limits are sound.
+fn judge(s: Settings) -> Reading
+    ensures { λ r. ⌜ r ≡ judged s (limitsVerdict s) ⌝ }
+{
+    let verdict = settings::check_limits(s);
+    match verdict {
+        Verdict::Accepted => Reading {
+            outcome: Outcome::Complete(s),
+            pending: Pending::empty(),
+        },
+        Verdict::Refused(refusal) => refuse(refusal),
+    }
+}
+
+impl Pending {
+    pub fn empty() -> Pending
+        ensures { λ r. ⌜ r ≡ emptyPending ⌝ }
+    {
+        Pending {
+            count: 0,
+            values: [0; 14],
+        }
+    }
+
+    // Keeps one word's data, of the kind that is due.
+    fn store(self, kind: u32, value: u32) -> Reading
+        requires { ⌜ kind < 14 ⌝ }
+        ensures { λ r. ⌜ r ≡ fieldOf self kind value ⌝ }
+    {
+        if field_ok(kind, value) {
+            let i = kind as usize;
+            let mut next = self;
+            next.values[i] = value;
+            next.count = kind + 1;
+            Reading {
+                outcome: Outcome::Stored,
+                pending: next,
+            }
+        } else {
+            refuse(Refusal::OutOfRange)
+        }
+    }
+
+    // Closes the settings by an end word's data.
+    fn finish(self, value: u32) -> Reading
+        ensures { λ r. ⌜ r ≡ endOf self value ⌝ }
+    {
+        let values = self.values;
+        if value == sum(values) {
+            judge(decode(values))
+        } else {
+            refuse(Refusal::ChecksumMismatch)
+        }
+    }
+
+    // Takes one settings word.
+    pub fn read(self, word: u32) -> Reading
+        ensures { λ r. ⌜ r ≡ readOf self word ⌝ }
+    {
+        let kind = word / KIND;
+        let value = word % KIND;
+        if kind == 0 {
+            return start(value);
+        }
+        if kind != due_kind(self.count) {
+            return refuse(Refusal::OutOfSequence);
+        }
+        if kind == 15 {
+            self.finish(value)
+        } else {
+            self.store(kind, value)
+        }
+    }
+}

@@ -1,0 +1,1 @@
+// Settings and their words, there and back: theorems alone, in proofs/, over the readings in specs/.

@@ -1,0 +1,89 @@
+-- The data of settings in range: each fits a word's 28 bits.
+-- Assumes nothing.
+use Prim.Native.Nat.{ℕ, zero, suc, _+_, _-_, _%_, _^_, _<_}
+use mathlib.Core.Path.{_≡_, refl}
+use mathlib.Core.Bool.{Bool, true, false, _||_}
+use mathlib.Core.List.{List, [], _∷_}
+use native.Mathlib.Omega.{arith}
+use borrow.Author.Tests.{leb-true, eqb-true}
+use lib.Dec.{leb, eqb}
+use lib.ListN.{getD}
+use Rattle.settings.specs.declared.Settings.{Settings}
+use Rattle.settings.specs.Ranges.{between, methodOk, optionOk, inRange}
+use Rattle.settings.proofs.Within.{Within, within, both}
+use Rattle.words.specs.Encode.{valuesOf, below}
+use Rattle.words.proofs.Bits.{modulo-below, set-below}
+
+-- each is below 2 ^ 28
+abbrev pub Below : List ℕ → Type 0
+Below [] = Unit {0}
+Below (x ∷ xs) = (x < 2 ^ 28) × Below xs
+
+pub below-at : (d : List ℕ) → Below d → below d
+below-at [] b i = omega arith
+below-at (x ∷ xs) b zero = b .0
+below-at (x ∷ xs) b (suc i) = below-at xs (b .1) i
+
+-- the upper end of a range
+top : (low high x : ℕ) → between low high x ≡ true → x < high + 1
+top low high x e = omega (arith, leb-true x high (both (leb low x) (leb x high) e .1))
+
+either-below : (a b : Bool) {x n : ℕ} → (a ≡ true → x < n) → (b ≡ true → x < n) → a || b ≡ true → x < n
+either-below true b f g e = f refl
+either-below false b f g e = g e
+
+method-below : (m : ℕ) → methodOk m ≡ true → m < 2 ^ 28
+unfolding methodOk
+method-below m e =
+    either-below (between 23 30 m) (between 33 35 m) (λ h. omega (arith, top 23 30 m h)) (λ h. omega (arith, top 33 35 m h)) e
+
+option-below : (x : ℕ) → optionOk x ≡ true → x < 2 ^ 28
+option-below x e = either-below (eqb x 2) (eqb x 6) (λ h. omega (arith, eqb-true x 2 h)) (λ h. omega (arith, eqb-true x 6 h)) e
+
+module _ (s : Settings) (e : inRange s ≡ true) where
+  pub values-below : Below (valuesOf s)
+  unfolding valuesOf
+  values-below =
+      let w = within s e in (
+        omega arith,
+        (
+          method-below (s .method) (w .method),
+          (
+            omega (arith, top 1 (2 ^ 28 - 1) (s .fast) (w .fast)),
+            (
+              omega (arith, top 1 (2 ^ 28 - 1) (s .slow) (w .slow)),
+              (
+                modulo-below (s .offset),
+                (
+                  omega (arith, top 1 (2 ^ 20) (s .numerator) (w .numerator)),
+                  (
+                    omega (arith, top 1 (2 ^ 20) (s .denominator) (w .denominator)),
+                    (
+                      modulo-below (s .lower),
+                      (
+                        modulo-below (s .upper),
+                        (
+                          omega (arith, leb-true (s .maximum) 3000 (w .maximum)),
+                          (
+                            set-below (s .positive1) (s .negative1) (w .positive1) (w .negative1),
+                            (
+                              set-below (s .positive2) (s .negative2) (w .positive2) (w .negative2),
+                              (
+                                option-below (s .option) (w .option),
+                                (
+                                  omega (arith, top 1 (2 ^ 24) (s .rated) (w .rated)),
+                                  tt,
+                                ),
+                              ),
+                            ),
+                          ),
+                        ),
+                      ),
+                    ),
+                  ),
+                ),
+              ),
+            ),
+          ),
+        ),
+      )
