@@ -1,3 +1,2 @@
 pub mod Fields
-pub mod Decode
 pub mod Read

@@ -19,8 +19,8 @@ use Rattle.reader.specs.declared.Outcome.the-variants.{Refused, Stored, 
 use Rattle.reader.specs.declared.Reading.{Reading}
 use Rattle.words.specs.Word.{kindOf, dataOf}
 use Rattle.reader.specs.Fields.{fieldOk}
-use Rattle.reader.specs.Decode.{settingsOf}
-use Rattle.words.specs.Encode.{checksum}
+use Rattle.words.specs.Decode.{settingsOf}
+use Rattle.words.specs.Encode.{checksumOf}
 
 -- nothing pending
 abbrev pub emptyPending : Pending
@@ -66,7 +66,7 @@ judged s (verdict.Refused r) = refused r
 -- 4: "end word's data differs from the sum"; then 5 and 6
 unfoldable pub endOf : Pending → ℕ → Reading
 endOf p x =
-    cond (eqb x (checksum (p .values))) (judged (settingsOf (p .values)) (limitsVerdict (settingsOf (p .values)))) (refused ChecksumMismatch)
+    cond (eqb x (checksumOf (p .values))) (judged (settingsOf (p .values)) (limitsVerdict (settingsOf (p .values)))) (refused ChecksumMismatch)
 
 -- "An end word is tested 1, 4, 5, 6, 7; other words 1, then 2 or 3"; 7 is the axis's
 unfoldable pub readOf : Pending → ℕ → Reading

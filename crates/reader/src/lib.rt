@@ -4,13 +4,11 @@ use settings::Settings;
 use settings::Verdict;
 use settings::ranges;
 use words::KIND;
+use words::decoder;
 ghost use mathlib.Core.Path.{_≡_};
-ghost use Prim.Native.Nat.{_<_, _%_, _^_};
-ghost use Rattle.counts.specs.Wrap.{signed};
+ghost use Prim.Native.Nat.{_<_};
 ghost use Rattle.settings.specs.Check.{limitsVerdict};
 ghost use Rattle.reader.specs.Fields.{torqueLimitsOk, fieldOk};
-ghost use Rattle.reader.specs.Decode.{settingsOf};
-ghost use Rattle.words.specs.Encode.{checksum};
 ghost use Rattle.reader.specs.Read.{emptyPending, dueKind, refused, startOf, fieldOf, judged, endOf, readOf};
 
 // The words that have come since the last start word: how many, and the data of each in order, 0 where none has come yet.
@@ -93,54 +91,6 @@ fn field_ok(kind: u32, value: u32) -> bool
     }
 }
 
-// The low 28 bits, read as signed.
-fn position(value: u32) -> i32
-    ensures { λ r. ⌜ r ≡ signed 28 (value % 2 ^ 28) ⌝ }
-{
-    let low = value % KIND;
-    if low < 134217728 {
-        low as i32
-    } else {
-        low as i32 - 268435456
-    }
-}
-
-fn decode(values: [u32; 14]) -> Settings
-    ensures { λ r. ⌜ r ≡ settingsOf values ⌝ }
-{
-    let offset = position(values[4]);
-    let lower = position(values[7]);
-    let upper = position(values[8]);
-    Settings {
-        method: values[1],
-        fast: values[2],
-        slow: values[3],
-        offset,
-        numerator: values[5],
-        denominator: values[6],
-        lower,
-        upper,
-        maximum: values[9],
-        positive1: values[10] % 16384,
-        negative1: values[10] / 16384,
-        positive2: values[11] % 16384,
-        negative2: values[11] / 16384,
-        option: values[12],
-        rated: values[13],
-    }
-}
-
-// The sum of the data, modulo 2^28.
-fn sum(values: [u32; 14]) -> u32
-    ensures { λ r. ⌜ r ≡ checksum values ⌝ }
-{
-    let mut total: u64 = 0;
-    for i in 0..14 {
-        total += values[i] as u64;
-    }
-    (total % 268435456) as u32
-}
-
 // Hands out settings whose position limits are sound.
 fn judge(s: Settings) -> Reading
     ensures { λ r. ⌜ r ≡ judged s (limitsVerdict s) ⌝ }
@@ -189,8 +139,8 @@ impl Pending {
         ensures { λ r. ⌜ r ≡ endOf self value ⌝ }
     {
         let values = self.values;
-        if value == sum(values) {
-            judge(decode(values))
+        if value == decoder::checksum(values) {
+            judge(decoder::decode(values))
         } else {
             refuse(Refusal::ChecksumMismatch)
         }

@@ -10,7 +10,7 @@ use Rattle.settings.proofs.Within.{within}
 use Rattle.words.specs.Encode.{valuesOf}
 use Rattle.words.proofs.Bits.{signed-modulo, set-low, set-high}
 use Rattle.reader.specs.Fields.{fieldOk}
-use Rattle.reader.specs.Decode.{settingsOf}
+use Rattle.words.specs.Decode.{settingsOf}
 
 -- each is in the field of its kind, the first one's being k
 abbrev pub InFields : ℕ → List ℕ → Type 0

@@ -8,7 +8,7 @@ use native.Mathlib.Nat.{not-suc-le-zero, le-of-suc-le-suc}
 use lib.ListN.{length, take, drop, set, getD, length-append, List·getD-append}
 use lib.Seq.{getD-at}
 use Rattle.words.specs.Word.{wordOf}
-use Rattle.words.specs.Encode.{total, checksum, wordsFrom, sealed}
+use Rattle.words.specs.Encode.{total, checksumOf, wordsFrom, sealed}
 
 -- a store of w's next element takes a buffer that starts with n elements of w to n + 1
 pub fill-more : (w d : List ℕ) (n : ℕ) → n < length w → n < length d → set (take n w ++ drop n d) n (getD w n 0) ≡ take (suc n) w ++ drop (suc n) d
@@ -37,13 +37,13 @@ total-more (x ∷ d) zero h = omega arith
 total-more (x ∷ d) (suc i) h = let e = total-more d i (le-of-suc-le-suc h) in omega arith
 
 pub length-sealed : (d : List ℕ) → length (sealed d) ≡ length d + 1
-length-sealed d = length-append (wordsFrom 0 d) (wordOf 15 (checksum d) ∷ []) ∙ ap (λ (n : ℕ). n + 1) (length-words 0 d)
+length-sealed d = length-append (wordsFrom 0 d) (wordOf 15 (checksumOf d) ∷ []) ∙ ap (λ (n : ℕ). n + 1) (length-words 0 d)
 
 pub sealed-word : (d : List ℕ) (i : ℕ) → i < length d → getD (sealed d) i 0 ≡ wordOf i (getD d i 0)
 sealed-word d i h =
     let l : i < length (wordsFrom 0 d) = omega (arith, length-words 0 d) in
     let e : 0 + i ≡ i = omega arith in
-    List·getD-append (wordsFrom 0 d) (wordOf 15 (checksum d) ∷ []) 0 i l ∙ word-at 0 d i h ∙ ap (λ (j : ℕ). wordOf j (getD d i 0)) e
+    List·getD-append (wordsFrom 0 d) (wordOf 15 (checksumOf d) ∷ []) 0 i l ∙ word-at 0 d i h ∙ ap (λ (j : ℕ). wordOf j (getD d i 0)) e
 
-pub sealed-end : (d : List ℕ) → getD (sealed d) (length d) 0 ≡ wordOf 15 (checksum d)
-sealed-end d = getD-at (wordsFrom 0 d) (wordOf 15 (checksum d)) [] 0 (length d) (length-words 0 d)
+pub sealed-end : (d : List ℕ) → getD (sealed d) (length d) 0 ≡ wordOf 15 (checksumOf d)
+sealed-end d = getD-at (wordsFrom 0 d) (wordOf 15 (checksumOf d)) [] 0 (length d) (length-words 0 d)

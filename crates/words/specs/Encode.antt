@@ -39,8 +39,8 @@ total [] = 0
 total (x ∷ xs) = x + total xs
 
 -- "The end's data is the sum of the fourteen earlier data fields, modulo 2^28."
-unfoldable pub checksum : List ℕ → ℕ
-checksum d = total d % 2 ^ 28
+unfoldable pub checksumOf : List ℕ → ℕ
+checksumOf d = total d % 2 ^ 28
 
 -- data as words of rising kinds
 unfoldable pub wordsFrom : ℕ → List ℕ → List ℕ
@@ -49,7 +49,7 @@ wordsFrom kind (x ∷ xs) = wordOf kind x ∷ wordsFrom (kind + 1) xs
 
 -- the words of some data, and the end word
 abbrev pub sealed : List ℕ → List ℕ
-sealed d = wordsFrom 0 d ++ (wordOf 15 (checksum d) ∷ [])
+sealed d = wordsFrom 0 d ++ (wordOf 15 (checksumOf d) ∷ [])
 
 unfoldable pub wordsOf : Settings → List ℕ
 wordsOf s = sealed (valuesOf s)

@@ -1,3 +1,4 @@
 pub mod Word
 pub mod Encode
+pub mod Decode
 pub mod Write

@@ -7,8 +7,8 @@ use borrow.Author.Needs.{needs}
 use Rattle.reader.proofs.Pending.finish.Statement.{statement}
 use Rattle.reader.proofs.Pending.finish.Tie as tie
 
-sum-requires : tie.Need-sum-requires
-sum-requires c κs = search needs
+checksum-requires : tie.Need-checksum-requires
+checksum-requires c κs = search needs
 
 decode-requires : tie.Need-decode-requires
 decode-requires c κs = search needs
@@ -21,13 +21,13 @@ refuse-requires c κs = search needs
 
 returns : tie.Need-returns
 unfolding endOf
-returns c = let b = c .before .before .before in rw (c .judge .ensures, c .before .decode .ensures, eq-eqb _ _ (c .before .before .if1 .taken ∙ b .sum .ensures))
+returns c = let b = c .before .before .before in rw (c .judge .ensures, c .before .decode .ensures, eq-eqb _ _ (c .before .before .if1 .taken ∙ b .checksum .ensures))
 
 returns-2 : tie.Need-returns-2
 unfolding endOf
-returns-2 c = let b = c .before .before in rw (c .refuse .ensures, ne-eqb _ _ (λ e. c .before .if1 .left (e ∙ sym (b .sum .ensures))))
+returns-2 c = let b = c .before .before in rw (c .refuse .ensures, ne-eqb _ _ (λ e. c .before .if1 .left (e ∙ sym (b .checksum .ensures))))
 
 pub finish-spec : {M : Type 1} → statement M
 finish-spec =
     tie.close
-    (tie.spec sum-requires decode-requires judge-requires refuse-requires returns returns-2)
+    (tie.spec checksum-requires decode-requires judge-requires refuse-requires returns returns-2)

@@ -1,4 +1,4 @@
--- `reader::position` meets its contract: from 2 ^ 27 on, 2 ^ 28 less.
+-- `words::decoder::position` meets its contract: from 2 ^ 27 on, 2 ^ 28 less.
 -- Assumes nothing.
 use mathlib.Core.Path.{_≡_, sym, _∙_}
 use Prim.Native.Nat.{_%_, _^_}
@@ -7,10 +7,10 @@ use borrow.Author.Tests.{lt-ltb}
 use mir.Facts.{toZ-ofZ}
 use mir.Syntax.{w32}
 use mir.ValLaws.{toZ-pos}
 use Rattle.words.proofs.Bits.{signed-low, signed-high}
 use borrow.Author.Needs.{needs}
-use Rattle.reader.proofs.position.Statement.{statement}
-use Rattle.reader.proofs.position.Tie as tie
+use Rattle.words.proofs.decoder.position.Statement.{statement}
+use Rattle.words.proofs.decoder.position.Tie as tie
 
 cast-result : tie.Need-cast-result
 cast-result c = search needs

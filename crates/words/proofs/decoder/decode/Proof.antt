@@ -1,4 +1,4 @@
--- `reader::decode` meets its contract.
+-- `words::decoder::decode` meets its contract.
 -- Assumes nothing.
 use Prim.Native.Nat.{ℕ, _/_, _%_, _^_}
 use mathlib.Core.Path.{_≡_, _∙_}
@@ -8,10 +8,10 @@ use Rattle.settings.specs.declared.Settings.{Settings}
 use mir.Facts.{toZ-ofZ}
 use mir.Syntax.{w32}
 use mir.Val.{SFits}
-use Rattle.reader.specs.Decode.{at, positionAt, settingsOf}
+use Rattle.words.specs.Decode.{at, positionAt, settingsOf}
 use borrow.Author.Needs.{needs}
-use Rattle.reader.proofs.decode.Statement.{statement}
-use Rattle.reader.proofs.decode.Tie as tie
+use Rattle.words.proofs.decoder.decode.Statement.{statement}
+use Rattle.words.proofs.decoder.decode.Tie as tie
 
 array-read-position : tie.Need-array-read-position
 array-read-position c = search needs

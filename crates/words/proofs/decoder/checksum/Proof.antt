@@ -1,4 +1,4 @@
--- `reader::sum` meets its contract: after i turns the total is that of the first i values, each below 2 ^ 32.
+-- `words::decoder::checksum` meets its contract: after i turns the total is that of the first i values, each below 2 ^ 32.
 -- Assumes nothing.
 use mir.Syntax.{w32}
 use mir.Val.{Fits}
@@ -9,11 +9,11 @@ use native.Mathlib.Omega.{arith}
 use borrow.Author.Needs.{needs}
 use lib.ListN.{length, take, getD}
 use lib.Seq.{take-all}
 use Rattle.words.specs.Encode
-use Rattle.words.specs.Encode.{checksum}
+use Rattle.words.specs.Encode.{checksumOf}
 use Rattle.words.proofs.Words.{total-more}
-use Rattle.reader.proofs.sum.Statement.{statement}
-use Rattle.reader.proofs.sum.Tie as tie
+use Rattle.words.proofs.decoder.checksum.Statement.{statement}
+use Rattle.words.proofs.decoder.checksum.Tie as tie
 
 abbrev Inv-loop : tie.InvT-loop
 Inv-loop values total₀ i₀ total i = (i ≤ 14) × (total ≡ Encode.total (take i values)) × (total ≤ i * 2 ^ 32)
@@ -58,15 +58,15 @@ cast-result : tie.Need-cast-result Inv-loop μ-loop
 cast-result c = search needs
 
 returns : tie.Need-returns Inv-loop μ-loop
-unfolding checksum
+unfolding checksumOf
 returns c =
     let b = c .before in
     let v = b .before .args .t1 in
     let n : length v ≡ 14 = search needs in
     rw (b .loop .inv .1, take-all (b .loop .i) v (omega arith))
 
-pub sum-spec : {M : Type 1} → statement M
-sum-spec =
+pub checksum-spec : {M : Type 1} → statement M
+checksum-spec =
     tie.close
     (tie.spec
     Inv-loop

@@ -1,4 +1,4 @@
--- `words::fill` meets its contract: after i turns the buffer starts with the first i words, and the sum is theirs.
+-- `words::writer::fill` meets its contract: after i turns the buffer starts with the first i words, and the sum is theirs.
 -- Assumes nothing.
 use Prim.Native.Nat.{_≤_, _<_, _+_, _-_, _*_, _%_, _^_}
 use mathlib.Core.Path.{_≡_, refl, sym, ap, _∙_}
@@ -8,23 +8,23 @@ use native.Mathlib.Omega.{arith}
 use borrow.Author.Needs.{needs}
 use lib.ListN.{length, take, drop, getD, length-set}
 use lib.Seq.{take-all}
-use Rattle.words.specs.Encode.{total, checksum, sealed}
+use Rattle.words.specs.Encode.{total, checksumOf, sealed}
 use Rattle.words.proofs.Words.{fill-more, total-more, length-sealed, sealed-word, sealed-end}
-use Rattle.words.proofs.fill.Statement.{statement}
-use Rattle.words.proofs.fill.Tie as tie
+use Rattle.words.proofs.writer.fill.Statement.{statement}
+use Rattle.words.proofs.writer.fill.Tie as tie
 
 abbrev Inv-loop : tie.InvT-loop
 Inv-loop buffer₀ values sum₀ i₀ buffer sum i =
     (i ≤ 14)
     × (buffer ≡ take i (sealed values) ++ drop i buffer₀)
     × (length buffer ≡ length buffer₀)
-    × (sum ≡ checksum (take i values))
+    × (sum ≡ checksumOf (take i values))
 
 abbrev μ-loop : tie.MeasureT-loop
 μ-loop buffer₀ values sum₀ i₀ buffer sum i = 14 - i
 
 loop-holds : tie.Need-loop-holds Inv-loop μ-loop
-unfolding total checksum
+unfolding total checksumOf
 loop-holds c = (omega arith, refl, refl, refl)
 
 mul-x : tie.Need-mul-x Inv-loop μ-loop
@@ -49,7 +49,7 @@ slice-write-buffer : tie.Need-slice-write-buffer Inv-loop μ-loop
 slice-write-buffer c = search needs
 
 add-sum : tie.Need-add-sum Inv-loop μ-loop
-unfolding checksum
+unfolding checksumOf
 add-sum c = omega (arith, c .before .before .pre .1 (c .before .loop .i))
 
 add-i : tie.Need-add-i Inv-loop μ-loop
@@ -59,7 +59,7 @@ loop-less : tie.Need-loop-less Inv-loop μ-loop
 loop-less c = search needs
 
 loop-again : tie.Need-loop-again Inv-loop μ-loop
-unfolding checksum
+unfolding checksumOf
 loop-again c =
     let a = c .before in
     let v = a .before .args .t1 in
@@ -74,7 +74,7 @@ loop-again c =
     )
 
 add-buffer-2 : tie.Need-add-buffer-2 Inv-loop μ-loop
-unfolding checksum
+unfolding checksumOf
 add-buffer-2 c = search needs
 
 slice-write-buffer-2 : tie.Need-slice-write-buffer-2 Inv-loop μ-loop

@@ -1,4 +1,4 @@
--- `words::write` meets its contract: its tests are the definition's, in its order.
+-- `words::writer::write` meets its contract: its tests are the definition's, in its order.
 -- Assumes nothing.
 use Prim.Native.Nat.{ℕ, _≤_}
 use mathlib.Core.Path.{_≡_, sym, _∙_}
@@ -15,8 +15,8 @@ use Rattle.words.specs.Encode.{valuesOf, wordsOf}
 use Rattle.words.specs.Write.{writeVerdict}
 use Rattle.words.proofs.Widths.{values-below, below-at}
 use borrow.Author.Needs.{needs}
-use Rattle.words.proofs.write.Statement.{statement}
-use Rattle.words.proofs.write.Tie as tie
+use Rattle.words.proofs.writer.write.Statement.{statement}
+use Rattle.words.proofs.writer.write.Tie as tie
 
 -- a buffer that is long enough leaves the verdict to the settings
 long : (s : Settings) (buffer : List ℕ) → 15 ≤ length buffer → writeVerdict s buffer ≡ verdictOf s

@@ -1,0 +1,57 @@
+// From the words' data back to settings.
+use crate::KIND;
+use settings::Settings;
+ghost use mathlib.Core.Path.{_≡_};
+ghost use Prim.Native.Nat.{_%_, _^_};
+ghost use Rattle.counts.specs.Wrap.{signed};
+ghost use Rattle.words.specs.Decode.{settingsOf};
+ghost use Rattle.words.specs.Encode.{checksumOf};
+
+// The low 28 bits, read as signed.
+fn position(value: u32) -> i32
+    ensures { λ r. ⌜ r ≡ signed 28 (value % 2 ^ 28) ⌝ }
+{
+    let low = value % KIND;
+    if low < 134217728 {
+        low as i32
+    } else {
+        low as i32 - 268435456
+    }
+}
+
+// The settings that the values of kinds 0 to 13 carry.
+pub fn decode(values: [u32; 14]) -> Settings
+    ensures { λ r. ⌜ r ≡ settingsOf values ⌝ }
+{
+    let offset = position(values[4]);
+    let lower = position(values[7]);
+    let upper = position(values[8]);
+    Settings {
+        method: values[1],
+        fast: values[2],
+        slow: values[3],
+        offset,
+        numerator: values[5],
+        denominator: values[6],
+        lower,
+        upper,
+        maximum: values[9],
+        positive1: values[10] % 16384,
+        negative1: values[10] / 16384,
+        positive2: values[11] % 16384,
+        negative2: values[11] / 16384,
+        option: values[12],
+        rated: values[13],
+    }
+}
+
+// The sum of the values, modulo 2^28.
+pub fn checksum(values: [u32; 14]) -> u32
+    ensures { λ r. ⌜ r ≡ checksumOf values ⌝ }
+{
+    let mut total: u64 = 0;
+    for i in 0..14 {
+        total += values[i] as u64;
+    }
+    (total % 268435456) as u32
+}
