@@ -1,2 +1,4 @@
 pub mod Match
 pub mod Steps
+pub mod Numbers
+pub mod Accepted

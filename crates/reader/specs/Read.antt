@@ -54,9 +54,13 @@ outOfSequence p w = not (eqb (kindOf w) (dueKind (p .count)) || eqb (kindOf w) 0
 unfoldable pub startOf : ℕ → Reading
 startOf x = cond (fieldOk 0 x) (stored started) (refused UnknownLayout)
 
+-- one more word's data
+abbrev pub kept : Pending → ℕ → ℕ → Pending
+kept p kind x = record { count = kind + 1; values = set (p .values) kind x }
+
 -- 3: "data outside its field"
 unfoldable pub fieldOf : Pending → ℕ → ℕ → Reading
-fieldOf p kind x = cond (fieldOk kind x) (stored (record { count = kind + 1; values = set (p .values) kind x })) (refused OutOfRange)
+fieldOf p kind x = cond (fieldOk kind x) (stored (kept p kind x)) (refused OutOfRange)
 
 -- the settings' own verdict: 5, 6 or none
 abbrev pub judged : Settings → Verdict → Reading

@@ -1,1 +1,5 @@
 pub mod Values
+pub mod Placed
+pub mod There
+pub mod Thirteen
+pub mod Back

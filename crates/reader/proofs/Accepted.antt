@@ -1,0 +1,88 @@
+-- How a word is accepted: it begins afresh, it is the one due, or it closes the settings.
+-- Assumes nothing.
+use Prim.Native.Nat.{ℕ, _<_, _≤_}
+use mathlib.Core.Path.{_≡_, refl, sym, _∙_, subst}
+use mathlib.Core.Bool.{Bool, true, false, cond}
+use native.Mathlib.Omega.{arith}
+use borrow.Author.Tests.{eqb-true, eqb-false}
+use lib.Dec.{eqb}
+use Rattle.settings.specs.declared.Refusal.{Refusal}
+use Rattle.settings.specs.declared.Refusal.the-variants.{OutOfSequence, UnknownLayout, OutOfRange, ChecksumMismatch, LimitsCrossed, OutOfReach, DriveActive, NoSettings, BufferTooShort}
+use Rattle.settings.specs.declared.Verdict.{Verdict}
+use Rattle.settings.specs.declared.Verdict.the-variants.{Accepted, Refused}
+use Rattle.settings.specs.declared.Settings.{Settings}
+use Rattle.settings.specs.Refusal.{numberOf}
+use Rattle.settings.specs.Check.{limitsVerdict}
+use Rattle.words.specs.Word.{kindOf, dataOf, wordOf}
+use Rattle.words.specs.Encode.{checksumOf}
+use Rattle.words.specs.Decode.{settingsOf}
+use Rattle.reader.specs.declared.Pending.{Pending}
+use Rattle.reader.specs.declared.Reading.{Reading}
+use Rattle.reader.specs.Fields.{fieldOk}
+use Rattle.reader.specs.Read.{dueKind, refused, stored, complete, started, kept, startOf, fieldOf, judged, endOf, readOf, outcomeNumber}
+use Rattle.reader.proofs.Steps.{read-start, read-out, read-end, read-field, due-below}
+
+pub data AcceptedBy (p : Pending) (w : ℕ) : Type 0 where
+  begins : w ≡ 1 → readOf p w ≡ stored started → AcceptedBy p w
+  keeps : kindOf w ≡ dueKind (p .count) → (kindOf w ≡ 0 → ⊥) → kindOf w < 14 → fieldOk (kindOf w) (dataOf w) ≡ true
+      → readOf p w ≡ stored (kept p (kindOf w) (dataOf w)) → AcceptedBy p w
+  closes : dueKind (p .count) ≡ 15 → w ≡ wordOf 15 (checksumOf (p .values)) → limitsVerdict (settingsOf (p .values)) ≡ Accepted
+      → readOf p w ≡ complete (settingsOf (p .values)) → AcceptedBy p w
+
+-- no refusal has number 0
+some-number : (r : Refusal) → numberOf r ≡ 0 → ⊥
+some-number OutOfSequence e = omega arith
+some-number UnknownLayout e = omega arith
+some-number OutOfRange e = omega arith
+some-number ChecksumMismatch e = omega arith
+some-number LimitsCrossed e = omega arith
+some-number OutOfReach e = omega arith
+some-number DriveActive e = omega arith
+some-number NoSettings e = omega arith
+some-number BufferTooShort e = omega arith
+
+-- the number of a reading
+abbrev numbered : Reading → ℕ
+numbered r = outcomeNumber (r .outcome)
+
+not-refused : {X : Type 0} (p : Pending) (w : ℕ) (r : Refusal) → readOf p w ≡ refused r → numbered (readOf p w) ≡ 0 → X
+not-refused p w r e z = absurd (some-number r (subst (λ (a : Reading). numbered a ≡ 0) e z))
+
+module _ (p : Pending) (w : ℕ) (z : numbered (readOf p w) ≡ 0) where
+  abbrev s : Settings
+  s = settingsOf (p .values)
+
+  start : kindOf w ≡ 0 → AcceptedBy p w
+  unfolding startOf fieldOk
+  start k = go (eqb (dataOf w) 1) refl (read-start p w k)
+    where
+      go : (a : Bool) → eqb (dataOf w) 1 ≡ a → readOf p w ≡ cond a (stored started) (refused UnknownLayout) → AcceptedBy p w
+      go true h e = begins (omega (arith, eqb-true (dataOf w) 1 h)) e
+      go false h e = not-refused p w UnknownLayout e z
+
+  field : kindOf w ≡ dueKind (p .count) → (kindOf w ≡ 0 → ⊥) → (kindOf w ≡ 15 → ⊥) → AcceptedBy p w
+  unfolding fieldOf
+  field d n f = go (fieldOk (kindOf w) (dataOf w)) refl (read-field p w d n f)
+    where
+      go : (a : Bool) → fieldOk (kindOf w) (dataOf w) ≡ a → readOf p w ≡ cond a (stored (kept p (kindOf w) (dataOf w))) (refused OutOfRange) → AcceptedBy p w
+      go true h e = keeps d n (due-below (kindOf w) (p .count) d f) h e
+      go false h e = not-refused p w OutOfRange e z
+
+  end : kindOf w ≡ dueKind (p .count) → kindOf w ≡ 15 → AcceptedBy p w
+  unfolding endOf
+  end d k = go (eqb (dataOf w) (checksumOf (p .values))) refl (limitsVerdict s) refl (read-end p w d k)
+    where
+      go : (a : Bool) → eqb (dataOf w) (checksumOf (p .values)) ≡ a → (v : Verdict) → limitsVerdict s ≡ v
+          → readOf p w ≡ cond a (judged s v) (refused ChecksumMismatch) → AcceptedBy p w
+      go true h Accepted l e = closes (sym d ∙ k) (omega (arith, eqb-true (dataOf w) (checksumOf (p .values)) h)) l e
+      go true h (Refused r) l e = not-refused p w r e z
+      go false h v l e = not-refused p w ChecksumMismatch e z
+
+  pub accepted-by : AcceptedBy p w
+  accepted-by = go (eqb (kindOf w) 0) refl (eqb (kindOf w) (dueKind (p .count))) refl (eqb (kindOf w) 15) refl
+    where
+      go : (a : Bool) → eqb (kindOf w) 0 ≡ a → (b : Bool) → eqb (kindOf w) (dueKind (p .count)) ≡ b → (c : Bool) → eqb (kindOf w) 15 ≡ c → AcceptedBy p w
+      go true h b i c j = start (eqb-true (kindOf w) 0 h)
+      go false h true i true j = end (eqb-true (kindOf w) (dueKind (p .count)) i) (eqb-true (kindOf w) 15 j)
+      go false h true i false j = field (eqb-true (kindOf w) (dueKind (p .count)) i) (eqb-false (kindOf w) 0 h) (eqb-false (kindOf w) 15 j)
+      go false h false i c j = not-refused p w OutOfSequence (read-out p w (eqb-false (kindOf w) 0 h) (eqb-false (kindOf w) (dueKind (p .count)) i)) z
