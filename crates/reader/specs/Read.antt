@@ -1,7 +1,7 @@
 -- 01, "Refused words": what one settings word does to the pending settings (01: the unfinished sheet).
 -- Assumes nothing.
 use Prim.Native.Nat.{ℕ, _+_}
-use mathlib.Core.Bool.{Bool, cond, not, _||_}
+use mathlib.Core.Bool.{Bool, cond, not, _&&_}
 use mathlib.Core.List.{_∷_}
 use lib.Dec.{eqb, ltb}
 use lib.ListN.{set, replicate}
@@ -48,7 +48,7 @@ complete s = record { outcome = Complete s; pending = emptyPending }
 
 -- 1: "word's kind is neither the next one due nor 0"
 abbrev pub outOfSequence : Pending → ℕ → Bool
-outOfSequence p w = not (eqb (kindOf w) (dueKind (p .count)) || eqb (kindOf w) 0)
+outOfSequence p w = not (eqb (kindOf w) (dueKind (p .count))) && not (eqb (kindOf w) 0)
 
 -- "A start word always begins afresh, also halfway." 2: "start word's data is not 1"
 unfoldable pub startOf : ℕ → Reading

@@ -32,31 +32,6 @@ pub struct Reading {
     pub pending: Pending,
 }
 
-fn refuse(refusal: Refusal) -> Reading
-    ensures { λ r. ⌜ r ≡ refused refusal ⌝ }
-{
-    Reading {
-        outcome: Outcome::Refused(refusal),
-        pending: Pending::empty(),
-    }
-}
-
-fn start(value: u32) -> Reading
-    ensures { λ r. ⌜ r ≡ startOf value ⌝ }
-{
-    if field_ok(0, value) {
-        Reading {
-            outcome: Outcome::Stored,
-            pending: Pending {
-                count: 1,
-                values: [1, 0, 0, 0, 0, 0, 0, 0, 0, 0, 0, 0, 0, 0],
-            },
-        }
-    } else {
-        refuse(Refusal::UnknownLayout)
-    }
-}
-
 fn due_kind(count: u32) -> u32
     ensures { λ r. ⌜ r ≡ dueKind count ⌝ }
 {
@@ -91,20 +66,6 @@ fn field_ok(kind: u32, value: u32) -> bool
     }
 }
 
-// Hands out settings whose position limits are sound.
-fn judge(s: Settings) -> Reading
-    ensures { λ r. ⌜ r ≡ judged s (limitsVerdict s) ⌝ }
-{
-    let verdict = settings::check_limits(s);
-    match verdict {
-        Verdict::Accepted => Reading {
-            outcome: Outcome::Complete(s),
-            pending: Pending::empty(),
-        },
-        Verdict::Refused(refusal) => refuse(refusal),
-    }
-}
-
 impl Pending {
     pub fn empty() -> Pending
         ensures { λ r. ⌜ r ≡ emptyPending ⌝ }
@@ -112,6 +73,35 @@ impl Pending {
         Pending {
             count: 0,
             values: [0; 14],
+        }
+    }
+
+    // Refuses a word: nothing stays pending.
+    fn refuse(mut self, refusal: Refusal) -> Reading
+        ensures { λ r. ⌜ r ≡ refused refusal ⌝ }
+    {
+        self.count = 0;
+        self.values = [0; 14];
+        Reading {
+            outcome: Outcome::Refused(refusal),
+            pending: self,
+        }
+    }
+
+    // Begins afresh by a start word's data.
+    fn start(self, value: u32) -> Reading
+        ensures { λ r. ⌜ r ≡ startOf value ⌝ }
+    {
+        if field_ok(0, value) {
+            Reading {
+                outcome: Outcome::Stored,
+                pending: Pending {
+                    count: 1,
+                    values: [1, 0, 0, 0, 0, 0, 0, 0, 0, 0, 0, 0, 0, 0],
+                },
+            }
+        } else {
+            self.refuse(Refusal::UnknownLayout)
         }
     }
 
@@ -130,7 +120,21 @@ impl Pending {
                 pending: next,
             }
         } else {
-            refuse(Refusal::OutOfRange)
+            self.refuse(Refusal::OutOfRange)
+        }
+    }
+
+    // Hands out settings whose position limits are sound.
+    fn judge(self, s: Settings) -> Reading
+        ensures { λ r. ⌜ r ≡ judged s (limitsVerdict s) ⌝ }
+    {
+        let verdict = settings::check_limits(s);
+        match verdict {
+            Verdict::Accepted => Reading {
+                outcome: Outcome::Complete(s),
+                pending: Pending::empty(),
+            },
+            Verdict::Refused(refusal) => self.refuse(refusal),
         }
     }
 
@@ -140,9 +144,9 @@ impl Pending {
     {
         let values = self.values;
         if value == decoder::checksum(values) {
-            judge(decoder::decode(values))
+            self.judge(decoder::decode(values))
         } else {
-            refuse(Refusal::ChecksumMismatch)
+            self.refuse(Refusal::ChecksumMismatch)
         }
     }
 
@@ -152,11 +156,12 @@ impl Pending {
     {
         let kind = word / KIND;
         let value = word % KIND;
-        if kind == 0 {
-            return start(value);
+        let due = due_kind(self.count);
+        if (kind != due) & (kind != 0) {
+            return self.refuse(Refusal::OutOfSequence);
         }
-        if kind != due_kind(self.count) {
-            return refuse(Refusal::OutOfSequence);
+        if kind == 0 {
+            return self.start(value);
         }
         if kind == 15 {
             self.finish(value)

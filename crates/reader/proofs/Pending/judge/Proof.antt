@@ -1,9 +1,9 @@
--- `reader::judge` meets its contract.
+-- `reader::Pending::judge` meets its contract.
 -- Assumes nothing.
 use mathlib.Core.Path.{sym, _∙_}
 use borrow.Author.Needs.{needs}
-use Rattle.reader.proofs.judge.Statement.{statement}
-use Rattle.reader.proofs.judge.Tie as tie
+use Rattle.reader.proofs.Pending.judge.Statement.{statement}
+use Rattle.reader.proofs.Pending.judge.Tie as tie
 
 check-limits-requires : tie.Need-check-limits-requires
 check-limits-requires c κs = search needs

@@ -1,10 +1,10 @@
--- `reader::start` meets its contract.
+-- `reader::Pending::start` meets its contract.
 -- Assumes nothing.
 use mathlib.Core.Path.{sym, _∙_}
 use Rattle.reader.specs.Read.{startOf}
 use borrow.Author.Needs.{needs}
-use Rattle.reader.proofs.start.Statement.{statement}
-use Rattle.reader.proofs.start.Tie as tie
+use Rattle.reader.proofs.Pending.start.Statement.{statement}
+use Rattle.reader.proofs.Pending.start.Tie as tie
 
 field-ok-requires : tie.Need-field-ok-requires
 field-ok-requires c κs = search needs
