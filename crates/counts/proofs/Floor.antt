@@ -3,14 +3,14 @@
 use mathlib.Core.Path.{_≡_, refl, sym, ap, _∙_, subst}
 use mathlib.Core.Bool.{Bool, true, false}
 use Prim.Native.Nat.{ℕ, zero, suc, _+_, _*_, _/_, _^_, _≤_, _<_, max}
-use native.Mathlib.Nat.{zero-add, div-le-self, lt-of-le-of-lt}
+use native.Mathlib.Nat.{zero-add, suc-mul, div-le-self, div-mul-le-self, lt-div-mul-add}
 use native.Mathlib.Omega.{arith}
-use lib.Dec.{T}
-use lib.IntN.{ℤ, pos, negsuc, _-ℤ_}
-use lib.Signed.{mag, quotZ, leZ}
+use lib.Dec.{T, le→leb, lt→ltb}
+use lib.IntN.{ℤ, pos, negsuc, negℤ, _+ℤ_, _-ℤ_, _*ℤ_}
+use lib.Signed.{mag, quotZ, leZ, ltZ, _≤ℤ_, _<ℤ_, leZ-yes, ltZ-yes}
 use mir.Syntax.{w64}
 use mir.Val.{SFits}
-use borrow.Author.Tests.{le-ltb, le-leb, leb-false}
+use borrow.Author.Tests.{lt-ltb, le-ltb, le-leb, leb-false}
 use Rattle.counts.specs.Divide.{floorDiv}
 
 -- −1 less z: it turns the negative numbers into the others and back
@@ -60,3 +60,29 @@ pub mag-floor : (z : ℤ) (d : ℕ) → mag (floorDiv z d) ≤ mag z
 unfolding floorDiv
 mag-floor (pos n) d = div-le-self n d
 mag-floor (negsuc n) d = div-le-self n d
+
+-- what the floor means: it is the greatest number whose product with d is at most z
+below-zero : (m n : ℕ) → n < m → T (leZ (negℤ (pos m)) (negsuc n))
+below-zero zero n h = absurd (omega arith)
+below-zero (suc m) n h = le→leb n m (omega arith)
+
+above-zero : (m n : ℕ) → m ≤ n → T (ltZ (negsuc n) (negℤ (pos m)))
+above-zero zero n h = tt
+above-zero (suc m) n h = lt→ltb m n (omega arith)
+
+one-up : (q : ℕ) → negsuc (suc q) +ℤ pos 1 ≡ negsuc q
+one-up q = rw (lt-ltb 1 (suc (suc q)) (omega arith)) (ap negsuc (omega arith))
+
+pub floor-below : (z : ℤ) (d : ℕ) → 0 < d → (floorDiv z d *ℤ pos d) ≤ℤ z
+unfolding floorDiv
+floor-below (pos n) d h = leZ-yes (le→leb (n / d * d) n (div-mul-le-self n d))
+floor-below (negsuc n) d h = leZ-yes (below-zero (suc (n / d) * d) n (rw suc-mul (lt-div-mul-add h)))
+
+pub floor-above : (z : ℤ) (d : ℕ) → 0 < d → z <ℤ ((floorDiv z d +ℤ pos 1) *ℤ pos d)
+unfolding floorDiv
+floor-above (pos n) d h = ltZ-yes (lt→ltb n ((n / d + 1) * d) (omega (arith, lt-div-mul-add {a = n} h, suc-mul (n / d) d)))
+floor-above (negsuc n) d h = go (n / d) (div-mul-le-self n d)
+  where
+    go : (q : ℕ) → q * d ≤ n → negsuc n <ℤ ((negsuc q +ℤ pos 1) *ℤ pos d)
+    go zero k = ltZ-yes tt
+    go (suc q) k = rw (one-up q) (ltZ-yes (above-zero (suc q * d) n k))

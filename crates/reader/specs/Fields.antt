@@ -5,7 +5,7 @@ use mathlib.Core.Bool.{Bool, true, false, _&&_}
 use mathlib.Core.List.{List, [], _∷_}
 use lib.Dec.{eqb}
 use lib.ListN.{getD}
-use Rattle.settings.specs.Ranges.{methodOk, speedOk, ratioOk, torqueOk, optionOk, ratedOk}
+use Rattle.ranges.specs.Range.{methodOk, speedOk, ratioOk, torqueOk, optionOk, ratedOk}
 
 -- "start (data 1)"
 abbrev pub startOk : ℕ → Bool

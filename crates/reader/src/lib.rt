@@ -2,7 +2,6 @@
 use settings::Refusal;
 use settings::Settings;
 use settings::Verdict;
-use settings::ranges;
 use words::KIND;
 use words::decoder;
 ghost use mathlib.Core.Path.{_≡_};

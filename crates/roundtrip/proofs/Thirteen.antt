@@ -6,7 +6,8 @@ use mathlib.Core.Bool.{true}
 use mathlib.Core.List.{List, [], _∷_}
 use native.Mathlib.Omega.{arith}
 use lib.ListN.{length, getD, drop}
-use Rattle.settings.specs.Ranges.{torqueOk, inRange}
+use Rattle.ranges.specs.Range.{torqueOk}
+use Rattle.settings.specs.Ranges.{inRange}
 use Rattle.settings.proofs.Within.{both, whole}
 use Rattle.words.specs.Encode.{valuesOf}
 use Rattle.words.specs.Decode.{settingsOf}

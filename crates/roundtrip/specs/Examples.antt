@@ -11,7 +11,8 @@ use Rattle.counts.specs.Wrap.{modulo, signed}
 use Rattle.counts.specs.Divide.{floorDiv}
 use Rattle.counts.specs.Clamp.{clamped}
 use Rattle.settings.specs.declared.Settings.{Settings}
-use Rattle.settings.specs.Ranges.{methodOk, inRange}
+use Rattle.ranges.specs.Range.{methodOk}
+use Rattle.settings.specs.Ranges.{inRange}
 use Rattle.settings.specs.Gear.{gearedOf, inReach}
 use Rattle.settings.specs.Check.{acceptable, limitsVerdict}
 use Rattle.words.specs.Encode.{valuesOf, total, checksumOf, wordsFrom, wordsOf}

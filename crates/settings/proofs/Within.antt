@@ -3,7 +3,8 @@
 use mathlib.Core.Path.{_≡_, refl}
 use mathlib.Core.Bool.{Bool, true, false, _&&_, false≢true}
 use Rattle.settings.specs.declared.Settings.{Settings}
-use Rattle.settings.specs.Ranges.{methodOk, speedOk, ratioOk, positionOk, torqueOk, optionOk, ratedOk, homingOk, gearOk, positionLimitsOk, torquesOk, driveOk, inRange}
+use Rattle.ranges.specs.Range.{methodOk, speedOk, ratioOk, positionOk, torqueOk, optionOk, ratedOk}
+use Rattle.settings.specs.Ranges.{homingOk, gearOk, positionLimitsOk, torquesOk, driveOk, inRange}
 
 pub both : (a b : Bool) → a && b ≡ true → (a ≡ true) × (b ≡ true)
 both true b e = (refl, e)

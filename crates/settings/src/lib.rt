@@ -5,8 +5,8 @@ ghost use mathlib.Core.Path.{_≡_};
 ghost use Rattle.settings.specs.Refusal.{numberOf};
 ghost use Rattle.settings.specs.Check.{limitsApart, limitsVerdict, verdictOf};
 
+pub mod fields;
 pub mod gear;
-pub mod ranges;
 
 // Settings of one axis, by CiA 402's names. Positions are in user units, torques in thousandths of the rated torque.
 pub struct Settings {
@@ -96,7 +96,7 @@ pub fn check_limits(s: Settings) -> Verdict
 pub fn check(s: Settings) -> Verdict
     ensures { λ r. ⌜ r ≡ verdictOf s ⌝ }
 {
-    if ranges::in_range(s) {
+    if fields::in_range(s) {
         check_limits(s)
     } else {
         Verdict::Refused(Refusal::OutOfRange)

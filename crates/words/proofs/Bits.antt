@@ -11,7 +11,7 @@ use lib.Signed.{leZ, ltZ}
 use mir.Syntax.{w32}
 use mir.Val.{SFits}
 use Rattle.counts.specs.Wrap.{modulo, signed}
-use Rattle.settings.specs.Ranges.{positionOk, torqueOk}
+use Rattle.ranges.specs.Range.{positionOk, torqueOk}
 use Rattle.settings.proofs.Within.{both}
 use Rattle.words.specs.Encode.{limitSet}
 

@@ -9,7 +9,8 @@ use borrow.Author.Tests.{leb-true, eqb-true}
 use lib.Dec.{leb, eqb}
 use lib.ListN.{getD}
 use Rattle.settings.specs.declared.Settings.{Settings}
-use Rattle.settings.specs.Ranges.{between, methodOk, optionOk, inRange}
+use Rattle.ranges.specs.Range.{between, methodOk, optionOk}
+use Rattle.settings.specs.Ranges.{inRange}
 use Rattle.settings.proofs.Within.{Within, within, both}
 use Rattle.words.specs.Encode.{valuesOf, below}
 use Rattle.words.proofs.Bits.{modulo-below, set-below}

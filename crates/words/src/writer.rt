@@ -9,7 +9,8 @@ ghost use mathlib.Core.Bool.{true};
 ghost use mathlib.Core.List.{_++_};
 ghost use lib.ListN.{length, drop};
 ghost use Rattle.counts.specs.Wrap.{modulo};
-ghost use Rattle.settings.specs.Ranges.{torqueOk, inRange};
+ghost use Rattle.ranges.specs.Range.{torqueOk};
+ghost use Rattle.settings.specs.Ranges.{inRange};
 ghost use Rattle.words.specs.Encode.{limitSet, valuesOf, below, sealed};
 ghost use Rattle.words.specs.Write.{writeVerdict, written};
 

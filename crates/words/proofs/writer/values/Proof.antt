@@ -21,13 +21,13 @@ limit-set-requires : tie.Need-limit-set-requires
 limit-set-requires c κs =
     let b = c .before .before .before .before .before .before in
     let w = within (b .args .s) (b .pre) in
-    (w .positive1, w .negative1)
+    search needs
 
 limit-set-requires-2 : tie.Need-limit-set-requires-2
 limit-set-requires-2 c κs =
     let b = c .before .before .before .before .before .before .before in
     let w = within (b .args .s) (b .pre) in
-    (w .positive2, w .negative2)
+    search needs
 
 returns : tie.Need-returns
 unfolding valuesOf

@@ -25,7 +25,7 @@ long s buffer h = rw (le-ltb _ _ h)
 
 returns : tie.Need-returns
 unfolding writeVerdict
-returns c = (rw (lt-ltb _ _ (c .if1 .taken)), rw (lt-ltb _ _ (c .if1 .taken)))
+returns c = (rw (lt-ltb _ 15 (c .if1 .taken)), rw (lt-ltb _ 15 (c .if1 .taken)))
 
 check-requires : tie.Need-check-requires
 check-requires c κs = search needs

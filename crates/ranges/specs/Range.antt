@@ -1,0 +1,38 @@
+-- 01, "The sheet": the range of each field, as a test.
+-- Assumes nothing.
+use Prim.Native.Nat.{ℕ, _-_, _^_}
+use mathlib.Core.Bool.{Bool, _&&_, _||_}
+use lib.Dec.{eqb, leb}
+use lib.IntN.{ℤ, pos, negℤ}
+use lib.Signed.{leZ, ltZ}
+
+abbrev pub between : ℕ → ℕ → ℕ → Bool
+between low high x = leb low x && leb x high
+
+-- "method 23 to 30, 33, 34 or 35"
+unfoldable pub methodOk : ℕ → Bool
+methodOk method = between 23 30 method || between 33 35 method
+
+-- "2 fast and 3 slow speed, 1 to 2^28−1"
+abbrev pub speedOk : ℕ → Bool
+speedOk speed = between 1 (2 ^ 28 - 1) speed
+
+-- "5 gear numerator and 6 denominator, 1 to 2^20"
+abbrev pub ratioOk : ℕ → Bool
+ratioOk ratio = between 1 (2 ^ 20) ratio
+
+-- "offset and stops are two's complement over 28 bits"
+abbrev pub positionOk : ℤ → Bool
+positionOk z = leZ (negℤ (pos (2 ^ 27))) z && ltZ z (pos (2 ^ 27))
+
+-- "maximum torque, 0 to 3000", and each limit of the two sets
+abbrev pub torqueOk : ℕ → Bool
+torqueOk torque = leb torque 3000
+
+-- "quick stop option, 2 or 6"
+abbrev pub optionOk : ℕ → Bool
+optionOk option = eqb option 2 || eqb option 6
+
+-- "rated torque in millinewton metres, 1 to 2^24"
+abbrev pub ratedOk : ℕ → Bool
+ratedOk rated = between 1 (2 ^ 24) rated

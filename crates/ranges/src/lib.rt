@@ -1,0 +1,54 @@
+// The range of each single field of the settings (01: the sheet, refusal 3).
+ghost use mathlib.Core.Path.{_≡_};
+ghost use Rattle.ranges.specs.Range.{between, methodOk, speedOk, ratioOk, positionOk, torqueOk, optionOk, ratedOk};
+
+fn within(low: u32, high: u32, x: u32) -> bool
+    ensures { λ r. ⌜ r ≡ between low high x ⌝ }
+{
+    (low <= x) & (x <= high)
+}
+
+pub fn method_ok(method: u32) -> bool
+    ensures { λ r. ⌜ r ≡ methodOk method ⌝ }
+{
+    match method {
+        23..=30 | 33..=35 => true,
+        _ => false,
+    }
+}
+
+pub fn speed_ok(speed: u32) -> bool
+    ensures { λ r. ⌜ r ≡ speedOk speed ⌝ }
+{
+    within(1, 268435455, speed)
+}
+
+pub fn ratio_ok(ratio: u32) -> bool
+    ensures { λ r. ⌜ r ≡ ratioOk ratio ⌝ }
+{
+    within(1, 1048576, ratio)
+}
+
+pub fn position_ok(position: i32) -> bool
+    ensures { λ r. ⌜ r ≡ positionOk position ⌝ }
+{
+    (-134217728 <= position) & (position < 134217728)
+}
+
+pub fn torque_ok(torque: u32) -> bool
+    ensures { λ r. ⌜ r ≡ torqueOk torque ⌝ }
+{
+    torque <= 3000
+}
+
+pub fn option_ok(option: u32) -> bool
+    ensures { λ r. ⌜ r ≡ optionOk option ⌝ }
+{
+    (option == 2) | (option == 6)
+}
+
+pub fn rated_ok(rated: u32) -> bool
+    ensures { λ r. ⌜ r ≡ ratedOk rated ⌝ }
+{
+    within(1, 16777216, rated)
+}
