@@ -61,7 +61,7 @@ add-read-fits h k = rw (read-wide h, read-wide k) (add-fits h k)
 pub sub-read-fits : {a b : ℤ} → SFits w32 a → SFits w32 b → SFits w64 (wide a -ℤ wide b)
 sub-read-fits h k = rw (read-wide h, read-wide k) (sub-fits h k)
 
-mag-neg-pos : (n : ℕ) → mag (negℤ (pos n)) ≤ n
+pub mag-neg-pos : (n : ℕ) → mag (negℤ (pos n)) ≤ n
 mag-neg-pos zero = omega arith
 mag-neg-pos (suc n) = omega arith
 

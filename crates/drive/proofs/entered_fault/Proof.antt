@@ -1,0 +1,17 @@
+-- `drive::entered_fault` meets its contract.
+-- Assumes nothing.
+use borrow.Author.Needs.{needs}
+use Rattle.drive.proofs.entered_fault.Statement.{statement}
+use Rattle.drive.proofs.entered_fault.Tie as tie
+
+in-state-requires : tie.Need-in-state-requires
+in-state-requires c κs = search needs
+
+in-state-requires-2 : tie.Need-in-state-requires-2
+in-state-requires-2 c κs = search needs
+
+returns : tie.Need-returns
+returns c = cc
+
+pub entered-fault-spec : {M : Type 1} → statement M
+entered-fault-spec = tie.close (tie.spec in-state-requires in-state-requires-2 returns)

@@ -1,0 +1,17 @@
+-- `drive::in_state` meets its contract.
+-- Assumes nothing.
+use borrow.Author.Needs.{needs}
+use Rattle.drive.proofs.in_state.Statement.{statement}
+use Rattle.drive.proofs.in_state.Tie as tie
+
+state-number-requires : tie.Need-state-number-requires
+state-number-requires c κs = search needs
+
+state-number-requires-2 : tie.Need-state-number-requires-2
+state-number-requires-2 c κs = search needs
+
+returns : tie.Need-returns
+returns c = cc
+
+pub in-state-spec : {M : Type 1} → statement M
+in-state-spec = tie.close (tie.spec state-number-requires state-number-requires-2 returns)

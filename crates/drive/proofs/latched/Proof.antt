@@ -1,0 +1,46 @@
+-- `drive::latched` meets its contract.
+-- Assumes nothing.
+use mathlib.Core.Path.{_≡_, sym, _∙_}
+use mathlib.Core.Bool.{Bool, not, _&&_}
+use borrow.Author.Needs.{needs}
+use Rattle.drive.proofs.latched.Statement.{statement}
+use Rattle.drive.proofs.latched.Tie as tie
+
+entered-fault-requires : tie.Need-entered-fault-requires
+entered-fault-requires c κs = search needs
+
+alarm-number-requires : tie.Need-alarm-number-requires
+alarm-number-requires c κs = search needs
+
+returns : tie.Need-returns
+returns c = rw (c .alarm-number .ensures, sym (c .before .before .entered-fault .ensures) ∙ c .before .if1 .taken)
+
+in-state-requires : tie.Need-in-state-requires
+in-state-requires c κs = search needs
+
+in-state-requires-2 : tie.Need-in-state-requires-2
+in-state-requires-2 c κs = search needs
+
+returns-2 : tie.Need-returns-2
+returns-2 c =
+    let a = c .before in
+    let e = a .before .before in
+    rw (sym (e .before .entered-fault .ensures) ∙ e .if1 .left, ← a .before .in-state .ensures, ← a .in-state2 .ensures, c .if2 .taken)
+
+returns-3 : tie.Need-returns-3
+returns-3 c =
+    let a = c .before in
+    let e = a .before .before in
+    rw (sym (e .before .entered-fault .ensures) ∙ e .if1 .left, ← a .before .in-state .ensures, ← a .in-state2 .ensures, c .if2 .left)
+
+pub latched-spec : {M : Type 1} → statement M
+latched-spec =
+    tie.close
+    (tie.spec
+    entered-fault-requires
+    alarm-number-requires
+    returns
+    in-state-requires
+    in-state-requires-2
+    returns-2
+    returns-3)

@@ -1,0 +1,17 @@
+-- `drive::rising` meets its contract.
+-- Assumes nothing.
+use borrow.Author.Needs.{needs}
+use Rattle.drive.proofs.rising.Statement.{statement}
+use Rattle.drive.proofs.rising.Tie as tie
+
+bit-requires : tie.Need-bit-requires
+bit-requires c κs = search needs
+
+bit-requires-2 : tie.Need-bit-requires-2
+bit-requires-2 c κs = search needs
+
+returns : tie.Need-returns
+returns c = cc
+
+pub rising-spec : {M : Type 1} → statement M
+rising-spec = tie.close (tie.spec bit-requires bit-requires-2 returns)

@@ -1,0 +1,5 @@
+pub mod Control
+pub mod Transitions
+pub mod Alarm
+pub mod Status
+pub mod Examples

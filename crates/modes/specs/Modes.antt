@@ -1,0 +1,39 @@
+-- 01, "A tick" and "Mode".
+-- Assumes nothing.
+use Prim.Native.Nat.{ℕ}
+use mathlib.Core.Bool.{Bool, cond, not, _&&_, _||_}
+use lib.Dec.{eqb}
+use lib.IntN.{ℤ, pos, negsuc}
+use Rattle.drive.specs.declared.State.{State}
+use Rattle.drive.specs.declared.State.the-variants.{OperationEnabled}
+use Rattle.drive.specs.Transitions.{is}
+use Rattle.modes.specs.declared.Mode.{Mode}
+use Rattle.modes.specs.declared.Mode.the-variants.{None, Hybrid, Homing, Position, Torque}
+
+-- "Their modes are −1, 6, 8, 10; rest has none"; a fresh axis shows mode 0
+abbrev pub modeNumber : Mode → ℤ
+modeNumber None = pos 0
+modeNumber Hybrid = negsuc 0
+modeNumber Homing = pos 6
+modeNumber Position = pos 8
+modeNumber Torque = pos 10
+
+-- modes are told apart by their places in that list
+abbrev pub modePlace : Mode → ℕ
+modePlace None = 0
+modePlace Hybrid = 1
+modePlace Homing = 2
+modePlace Position = 3
+modePlace Torque = 4
+
+abbrev pub isMode : Mode → Mode → Bool
+isMode m n = eqb (modePlace m) (modePlace n)
+
+-- "A command's mode becomes the shown mode if the state before was not Operation enabled, or standstill is set. Otherwise the shown mode
+-- stays."
+abbrev pub shownOf : Mode → Mode → State → Bool → Mode
+shownOf wanted shown before still = cond (not (isMode wanted None) && (not (is before OperationEnabled) || still)) wanted shown
+
+-- "The command is matched if its mode is the shown one"; rest is never matched
+abbrev pub matchedOf : Mode → Mode → Bool
+matchedOf wanted shown = not (isMode wanted None) && isMode wanted shown

@@ -1,0 +1,23 @@
+-- `position::limited` meets its contract.
+-- Assumes nothing.
+use mir.Facts.{toZ-ofZ}
+use mir.Syntax.{w32}
+use mir.Val.{SFits}
+use borrow.Author.Needs.{needs}
+use Rattle.position.proofs.limited.Statement.{statement}
+use Rattle.position.proofs.limited.Tie as tie
+
+clamp-requires : tie.Need-clamp-requires
+clamp-requires c κs = search needs
+
+returns : tie.Need-returns
+returns c =
+    let b = c .before .before .before in
+    let s = b .args .s in
+    let r : SFits w32 (c .clamp .result) = search needs in
+    let l : SFits w32 (s .lower) = search needs in
+    let u : SFits w32 (s .upper) = search needs in
+    rw (toZ-ofZ r, c .clamp .ensures, toZ-ofZ (b .fits .target), toZ-ofZ l, toZ-ofZ u)
+
+pub limited-spec : {M : Type 1} → statement M
+limited-spec = tie.close (tie.spec clamp-requires returns)

@@ -1,0 +1,36 @@
+-- 01, "Position": "with position matched, Operation enabled and homed: clamp the target to the stops, subtract offset, times numerator,
+-- over denominator, rounded towards minus infinity, added to home modulo 2^32 (signed). Otherwise the actual position."
+-- Assumes nothing.
+use mathlib.Core.Bool.{Bool, false, cond, _&&_, _||_}
+use lib.IntN.{ℤ, _+ℤ_}
+use lib.Signed.{ltZ}
+use Rattle.counts.specs.Wrap.{wrapped}
+use Rattle.counts.specs.Clamp.{clamped}
+use Rattle.settings.specs.declared.Settings.{Settings}
+use Rattle.settings.specs.Gear.{gearedOf}
+use Rattle.position.specs.declared.Followed.{Followed}
+use Rattle.position.specs.declared.Followed.the-variants.{Target, Nothing}
+
+-- the followed target, a value or none
+abbrev pub followedOf : Bool → Bool → Bool → ℤ → Followed
+followedOf matched enabled homed target = cond (matched && enabled && homed) (Target target) Nothing
+
+-- the target within the stops
+abbrev pub limitedOf : Settings → ℤ → ℤ
+limitedOf s target = clamped target (s .lower) (s .upper)
+
+-- its count
+unfoldable pub placeOf : Settings → ℤ → ℤ → ℤ
+placeOf s home target = wrapped (home +ℤ gearedOf s (limitedOf s target))
+
+abbrev pub positionOf : Settings → ℤ → Followed → ℤ → ℤ
+positionOf s home (Target target) actual = placeOf s home target
+positionOf s home Nothing actual = actual
+
+-- "the followed target was clamped": it is outside the stops
+abbrev pub outsideOf : Settings → ℤ → Bool
+outsideOf s target = ltZ target (s .lower) || ltZ (s .upper) target
+
+abbrev pub clampedOf : Settings → Followed → Bool
+clampedOf s (Target target) = outsideOf s target
+clampedOf s Nothing = false

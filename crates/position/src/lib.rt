@@ -1,0 +1,63 @@
+// The position that a tick commands: the followed target as a count, or the actual position.
+use settings::Settings;
+use settings::gear;
+ghost use mathlib.Core.Path.{_≡_};
+ghost use Rattle.position.specs.Position.{followedOf, limitedOf, placeOf, positionOf, outsideOf, clampedOf};
+
+// The target that a tick follows, in user units.
+pub enum Followed {
+    Target(i32),
+    Nothing,
+}
+
+// A target is followed where position is matched, the drive is in Operation enabled and the axis is homed.
+pub fn follow(matched: bool, enabled: bool, homed: bool, target: i32) -> Followed
+    ensures { λ r. ⌜ r ≡ followedOf matched enabled homed target ⌝ }
+{
+    if matched & enabled & homed {
+        Followed::Target(target)
+    } else {
+        Followed::Nothing
+    }
+}
+
+// A target within the position limits.
+fn limited(s: Settings, target: i32) -> i32
+    ensures { λ r. ⌜ r ≡ limitedOf s target ⌝ }
+{
+    counts::clamp(target, s.lower, s.upper)
+}
+
+fn place(s: Settings, home: i32, target: i32) -> i32
+    ensures { λ r. ⌜ r ≡ placeOf s home target ⌝ }
+{
+    let near = limited(s, target);
+    let count = gear::geared(s, near);
+    counts::sum(home, count)
+}
+
+// The commanded position, in counts.
+pub fn position(s: Settings, home: i32, target: Followed, actual: i32) -> i32
+    ensures { λ r. ⌜ r ≡ positionOf s home target actual ⌝ }
+{
+    match target {
+        Followed::Target(t) => place(s, home, t),
+        Followed::Nothing => actual,
+    }
+}
+
+fn outside(s: Settings, target: i32) -> bool
+    ensures { λ r. ⌜ r ≡ outsideOf s target ⌝ }
+{
+    (target < s.lower) | (s.upper < target)
+}
+
+// Whether the followed target was clamped.
+pub fn is_clamped(s: Settings, target: Followed) -> bool
+    ensures { λ r. ⌜ r ≡ clampedOf s target ⌝ }
+{
+    match target {
+        Followed::Target(t) => outside(s, t),
+        Followed::Nothing => false,
+    }
+}

@@ -1,0 +1,14 @@
+-- `status::reached` meets its contract.
+-- Assumes nothing.
+use borrow.Author.Needs.{needs}
+use Rattle.status.proofs.reached.Statement.{statement}
+use Rattle.status.proofs.reached.Tie as tie
+
+is-mode-requires : tie.Need-is-mode-requires
+is-mode-requires c κs = search needs
+
+returns : tie.Need-returns
+returns c = rw (c .before .is-mode .ensures)
+
+pub reached-spec : {M : Type 1} → statement M
+reached-spec = tie.close (tie.spec is-mode-requires returns)

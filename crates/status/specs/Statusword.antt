@@ -1,0 +1,36 @@
+-- 01, "Drive state": "Bit 8 is added when homed." And "Status above bit 9".
+-- Assumes nothing.
+use Prim.Native.Nat.{ℕ, _+_, _^_}
+use mathlib.Core.Bool.{Bool, true, false, not, _&&_, _||_}
+use Rattle.drive.specs.declared.State.{State}
+use Rattle.drive.specs.Status.{statusOf}
+use Rattle.modes.specs.declared.Mode.{Mode}
+use Rattle.modes.specs.declared.Mode.the-variants.{Homing, Position}
+use Rattle.modes.specs.Modes.{isMode}
+use Rattle.status.specs.declared.Flags.{Flags}
+
+abbrev pub weightOf : Bool → ℕ → ℕ
+weightOf true weight = weight
+weightOf false weight = 0
+
+-- bit 10: "In mode 6: 10 unless homing runs"
+abbrev pub reachedOf : Mode → Flags → Bool
+reachedOf mode f = isMode mode Homing && not (f .running)
+
+-- bit 12: "In mode 6: … 12 homed"; "In mode 8: 12 when a target is followed"
+abbrev pub acknowledgedOf : Mode → Flags → Bool
+acknowledgedOf mode f = isMode mode Homing && f .homed || isMode mode Position && f .following
+
+-- bit 13: "In mode 6: … 13 error"
+abbrev pub deviationOf : Mode → Flags → Bool
+deviationOf mode f = isMode mode Homing && f .failed
+
+-- the drive's bits 0 to 9, and 8, 10, 11, 12, 13; "the rest 0"
+unfoldable pub statuswordOf : State → Mode → Flags → ℕ
+statuswordOf s mode f =
+    statusOf s
+    + weightOf (f .homed) (2 ^ 8)
+    + weightOf (reachedOf mode f) (2 ^ 10)
+    + weightOf (f .limited) (2 ^ 11)
+    + weightOf (acknowledgedOf mode f) (2 ^ 12)
+    + weightOf (deviationOf mode f) (2 ^ 13)

@@ -1,0 +1,12 @@
+-- 01, "Torque": "in Operation enabled or Quick stop active with a matched command, the demand clamped …; else 0".
+-- Assumes nothing.
+use mathlib.Core.Bool.{Bool, cond}
+use lib.IntN.{ℤ, pos}
+use Rattle.counts.specs.Clamp.{clamped}
+use Rattle.settings.specs.declared.Settings.{Settings}
+use Rattle.torque.specs.declared.LimitSet.{LimitSet}
+use Rattle.torque.specs.Limits.{chosenBounds}
+
+-- on: the drive is live and the command matched
+unfoldable pub torqueOf : Settings → LimitSet → Bool → ℤ → ℤ
+torqueOf s set on demand = cond on (clamped demand (chosenBounds s set .low) (chosenBounds s set .high)) (pos 0)
