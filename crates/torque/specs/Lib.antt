@@ -1,2 +1,3 @@
 pub mod Limits
 pub mod Torque
+pub mod Examples

@@ -1,8 +1,12 @@
 // The torque that a tick commands: a demand held within the torque limits of the settings.
+use commands::Demand;
 use settings::Settings;
 ghost use mathlib.Core.Path.{_≡_};
 ghost use Prim.Native.Nat.{min};
+ghost use Rattle.commands.specs.Commands.{wholeDemand};
+ghost use Rattle.counts.specs.Clamp.{clamped};
 ghost use Rattle.torque.specs.Limits.{capOf, boundsOf, chosenBounds};
+ghost use Rattle.torque.specs.Torque.{torqueOf};
 
 // The choice of a tick between the two sets of torque limits.
 pub enum LimitSet {
@@ -50,4 +54,24 @@ pub fn chosen_bounds(s: Settings, set: LimitSet) -> Bounds
         LimitSet::Set1 => bounds_of(s.maximum, s.positive1, s.negative1),
         LimitSet::Set2 => bounds_of(s.maximum, s.positive2, s.negative2),
     }
+}
+
+// A demand held within bounds.
+fn held(demand: Demand, low: i32, high: i32) -> i32
+    ensures { λ r. ⌜ r ≡ clamped (wholeDemand demand) low high ⌝ }
+{
+    match demand {
+        Demand::Request(request) => counts::clamp(request as i32, low, high),
+        Demand::Quotient(q) => hybrid::demand(q, low, high),
+    }
+}
+
+// The torque of a demand; on: the drive is live and the command matched.
+pub fn torque(s: Settings, set: LimitSet, on: bool, demand: Demand) -> i32
+    ensures { λ r. ⌜ r ≡ torqueOf s set on (wholeDemand demand) ⌝ }
+{
+    let b = chosen_bounds(s, set);
+    let low = b.low;
+    let high = b.high;
+    if on { held(demand, low, high) } else { 0 }
 }

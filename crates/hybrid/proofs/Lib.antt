@@ -1,0 +1,4 @@
+pub mod Value
+pub mod Floats
+pub mod Pattern
+pub mod Saturate
