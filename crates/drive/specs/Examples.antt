@@ -1,5 +1,4 @@
--- 01, "Rehearsed examples": "Ready with 000F: 0233, next tick 0237", and one step of every other kind, as one table that the checker
--- evaluates.
+-- 01, "Rehearsed examples": "Ready with 000F: 0233, next tick 0237", and some steps more, as one table that the checker evaluates.
 -- Assumes nothing.
 use Prim.Native.Nat.{ℕ}
 use mathlib.Core.Path.{_≡_, refl}
@@ -20,7 +19,7 @@ after s control = statusOf (nextOf s control 0 false 2 0)
 unfoldable table : List Bool
 table =
     eqb (after Ready 0x000F) 0x0233
-    ∷ eqb (after SwitchedOn 0x000F) 0x0237
+    ∷ eqb (statusOf (nextOf (nextOf Ready 0x000F 0 false 2 0) 0x000F 0x000F false 2 0)) 0x0237
     ∷ eqb (after NotReady 0x000F) 0x0250
     ∷ eqb (after SwitchOnDisabled 0x0006) 0x0231
     ∷ eqb (after OperationEnabled 0x0002) 0x0217
@@ -34,6 +33,8 @@ table =
     ∷ eqb (statusOf (nextOf FaultReaction 0x000F 0 false 2 8)) 0x0208
     ∷ eqb (statusOf (nextOf Fault 0x0080 0 false 2 0)) 0x0250
     ∷ eqb (statusOf (nextOf Fault 0x0080 0x0080 false 2 0)) 0x0208
+    ∷ eqb (statusOf (nextOf Fault 0x0080 0 false 2 8)) 0x0208
+    ∷ eqb (statusOf (nextOf NotReady 0x0000 0 false 2 1)) 0x020F
     ∷ eqb (alarmNumberOf 0x80000000) 32
     ∷ eqb (alarmNumberOf 0x00000028) 4
     ∷ []

@@ -103,7 +103,8 @@ settled SwitchedOn alarm reset quiet = cond alarm FaultReaction quiet
 settled OperationEnabled alarm reset quiet = cond alarm FaultReaction quiet
 settled QuickStopActive alarm reset quiet = cond alarm FaultReaction quiet
 
--- the state after a tick: control word, the word before it, standstill, quick stop option, alarm word
+-- the state after a tick: control word, the word before it, standstill, quick stop option, and the alarm word with what the command adds to
+-- it. An option other than 2 and 6, which no acceptable settings have, stays in Quick stop active.
 unfoldable pub nextOf : State → ℕ → ℕ → Bool → ℕ → ℕ → State
 nextOf s control before still option alarm =
     settled s (not (eqb alarm 0)) (rises before control 7) (quietOf s (controlCommandOf control) still option)

@@ -46,7 +46,7 @@ table =
     same (demanded (spring 0x4000_0000 0x3f00_0000) 2000) (pos 500)
     -- T −1 alone, rated 3000: −333
     ∷ same (demanded (torque 0xbf80_0000) 3000) (negsuc 332)
-    -- T −0.001, rated 2000: q is −0.5, and the demand 0
+    -- T −0.001, rated 2000: q is about −0.5, and the demand 0
     ∷ same (demanded (torque 0xba83_126f) 2000) (pos 0)
     -- KP 1, pd 2^24, KD 1, vd 1, T −2^24: the first sum is rounded to 2^24, so the demand is 0 and not 500
     ∷ same (demanded (command 0x3f80_0000 0x3f80_0000 0x4b80_0000 0x3f80_0000 0xcb80_0000 0 0) 2000) (pos 0)

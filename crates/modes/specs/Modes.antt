@@ -29,11 +29,11 @@ modePlace Torque = 4
 abbrev pub isMode : Mode → Mode → Bool
 isMode m n = eqb (modePlace m) (modePlace n)
 
--- "A command's mode becomes the shown mode if the state before was not Operation enabled, or standstill is set. Otherwise the shown mode
+-- shown: the mode shown before the tick. "A command's mode becomes the shown mode if the state before was not Operation enabled, or standstill is set. Otherwise the shown mode
 -- stays."
 abbrev pub shownOf : Mode → Mode → State → Bool → Mode
 shownOf wanted shown before still = cond (not (isMode wanted None) && (not (is before OperationEnabled) || still)) wanted shown
 
--- "The command is matched if its mode is the shown one"; rest is never matched
+-- shown: the mode shown after that step. "The command is matched if its mode is the shown one"; rest, which wants None, never is
 abbrev pub matchedOf : Mode → Mode → Bool
 matchedOf wanted shown = not (isMode wanted None) && isMode wanted shown

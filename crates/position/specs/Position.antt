@@ -11,7 +11,7 @@ use Rattle.settings.specs.Gear.{gearedOf}
 use Rattle.position.specs.declared.Followed.{Followed}
 use Rattle.position.specs.declared.Followed.the-variants.{Target, Nothing}
 
--- the followed target, a value or none
+-- the followed target, a value or none. matched: the tick's command is position and matched; enabled: the new state is Operation enabled
 abbrev pub followedOf : Bool → Bool → Bool → ℤ → Followed
 followedOf matched enabled homed target = cond (matched && enabled && homed) (Target target) Nothing
 

@@ -29,6 +29,11 @@ pub data AcceptedBy (p : Pending) (w : ℕ) : Type 0 where
   closes : dueKind (p .count) ≡ 15 → w ≡ wordOf 15 (checksumOf (p .values)) → limitsVerdict (settingsOf (p .values)) ≡ Accepted
       → readOf p w ≡ complete (settingsOf (p .values)) → AcceptedBy p w
 
+-- how a word is read: it is refused, or accepted
+pub data ReadBy (p : Pending) (w : ℕ) : Type 0 where
+  refuses : (r : Refusal) → readOf p w ≡ refused r → ReadBy p w
+  accepted : AcceptedBy p w → ReadBy p w
+
 -- no refusal has number 0
 some-number : (r : Refusal) → numberOf r ≡ 0 → ⊥
 some-number OutOfSequence e = omega arith
@@ -48,41 +53,48 @@ numbered r = outcomeNumber (r .outcome)
 not-refused : {X : Type 0} (p : Pending) (w : ℕ) (r : Refusal) → readOf p w ≡ refused r → numbered (readOf p w) ≡ 0 → X
 not-refused p w r e z = absurd (some-number r (subst (λ (a : Reading). numbered a ≡ 0) e z))
 
-module _ (p : Pending) (w : ℕ) (z : numbered (readOf p w) ≡ 0) where
+module _ (p : Pending) (w : ℕ) where
   abbrev s : Settings
   s = settingsOf (p .values)
 
-  start : kindOf w ≡ 0 → AcceptedBy p w
+  start : kindOf w ≡ 0 → ReadBy p w
   unfolding startOf fieldOk
   start k = go (eqb (dataOf w) 1) refl (read-start p w k)
     where
-      go : (a : Bool) → eqb (dataOf w) 1 ≡ a → readOf p w ≡ cond a (stored started) (refused UnknownLayout) → AcceptedBy p w
-      go true h e = begins (omega (arith, eqb-true (dataOf w) 1 h)) e
-      go false h e = not-refused p w UnknownLayout e z
+      go : (a : Bool) → eqb (dataOf w) 1 ≡ a → readOf p w ≡ cond a (stored started) (refused UnknownLayout) → ReadBy p w
+      go true h e = accepted (begins (omega (arith, eqb-true (dataOf w) 1 h)) e)
+      go false h e = refuses UnknownLayout e
 
-  field : kindOf w ≡ dueKind (p .count) → (kindOf w ≡ 0 → ⊥) → (kindOf w ≡ 15 → ⊥) → AcceptedBy p w
+  field : kindOf w ≡ dueKind (p .count) → (kindOf w ≡ 0 → ⊥) → (kindOf w ≡ 15 → ⊥) → ReadBy p w
   unfolding fieldOf
   field d n f = go (fieldOk (kindOf w) (dataOf w)) refl (read-field p w d n f)
     where
-      go : (a : Bool) → fieldOk (kindOf w) (dataOf w) ≡ a → readOf p w ≡ cond a (stored (kept p (kindOf w) (dataOf w))) (refused OutOfRange) → AcceptedBy p w
-      go true h e = keeps d n (due-below (kindOf w) (p .count) d f) h e
-      go false h e = not-refused p w OutOfRange e z
+      go : (a : Bool) → fieldOk (kindOf w) (dataOf w) ≡ a → readOf p w ≡ cond a (stored (kept p (kindOf w) (dataOf w))) (refused OutOfRange) → ReadBy p w
+      go true h e = accepted (keeps d n (due-below (kindOf w) (p .count) d f) h e)
+      go false h e = refuses OutOfRange e
 
-  end : kindOf w ≡ dueKind (p .count) → kindOf w ≡ 15 → AcceptedBy p w
+  end : kindOf w ≡ dueKind (p .count) → kindOf w ≡ 15 → ReadBy p w
   unfolding endOf
   end d k = go (eqb (dataOf w) (checksumOf (p .values))) refl (limitsVerdict s) refl (read-end p w d k)
     where
       go : (a : Bool) → eqb (dataOf w) (checksumOf (p .values)) ≡ a → (v : Verdict) → limitsVerdict s ≡ v
-          → readOf p w ≡ cond a (judged s v) (refused ChecksumMismatch) → AcceptedBy p w
-      go true h Accepted l e = closes (sym d ∙ k) (omega (arith, eqb-true (dataOf w) (checksumOf (p .values)) h)) l e
-      go true h (Refused r) l e = not-refused p w r e z
-      go false h v l e = not-refused p w ChecksumMismatch e z
+          → readOf p w ≡ cond a (judged s v) (refused ChecksumMismatch) → ReadBy p w
+      go true h Accepted l e = accepted (closes (sym d ∙ k) (omega (arith, eqb-true (dataOf w) (checksumOf (p .values)) h)) l e)
+      go true h (Refused r) l e = refuses r e
+      go false h v l e = refuses ChecksumMismatch e
 
-  pub accepted-by : AcceptedBy p w
-  accepted-by = go (eqb (kindOf w) 0) refl (eqb (kindOf w) (dueKind (p .count))) refl (eqb (kindOf w) 15) refl
+  pub read-by : ReadBy p w
+  read-by = go (eqb (kindOf w) 0) refl (eqb (kindOf w) (dueKind (p .count))) refl (eqb (kindOf w) 15) refl
     where
-      go : (a : Bool) → eqb (kindOf w) 0 ≡ a → (b : Bool) → eqb (kindOf w) (dueKind (p .count)) ≡ b → (c : Bool) → eqb (kindOf w) 15 ≡ c → AcceptedBy p w
+      go : (a : Bool) → eqb (kindOf w) 0 ≡ a → (b : Bool) → eqb (kindOf w) (dueKind (p .count)) ≡ b → (c : Bool) → eqb (kindOf w) 15 ≡ c → ReadBy p w
       go true h b i c j = start (eqb-true (kindOf w) 0 h)
       go false h true i true j = end (eqb-true (kindOf w) (dueKind (p .count)) i) (eqb-true (kindOf w) 15 j)
       go false h true i false j = field (eqb-true (kindOf w) (dueKind (p .count)) i) (eqb-false (kindOf w) 0 h) (eqb-false (kindOf w) 15 j)
-      go false h false i c j = not-refused p w OutOfSequence (read-out p w (eqb-false (kindOf w) 0 h) (eqb-false (kindOf w) (dueKind (p .count)) i)) z
+      go false h false i c j = refuses OutOfSequence (read-out p w (eqb-false (kindOf w) 0 h) (eqb-false (kindOf w) (dueKind (p .count)) i))
+
+pub accepted-by : (p : Pending) (w : ℕ) → numbered (readOf p w) ≡ 0 → AcceptedBy p w
+accepted-by p w z = go (read-by p w)
+  where
+    go : ReadBy p w → AcceptedBy p w
+    go (refuses r e) = not-refused p w r e z
+    go (accepted a) = a

@@ -48,14 +48,14 @@ long p k ws s r =
     omega arith
 
 -- the kind due tells how many words have come, up to fourteen
-due-end : (n : ℕ) → dueKind n ≡ 15 → min n 14 ≡ 14
+pub due-end : (n : ℕ) → dueKind n ≡ 15 → min n 14 ≡ 14
 due-end n e = go (ltb n 14) refl e
   where
     go : (t : Bool) → ltb n 14 ≡ t → cond t n 15 ≡ 15 → min n 14 ≡ 14
     go true q e = let h = ltb-true n 14 q in absurd (omega arith)
     go false q e = let h = ltb-false n 14 q in omega arith
 
-due-field : (k n : ℕ) → k ≡ dueKind n → k < 14 → n ≡ k
+pub due-field : (k n : ℕ) → k ≡ dueKind n → k < 14 → n ≡ k
 due-field k n e h = go (ltb n 14) refl e
   where
     go : (t : Bool) → ltb n 14 ≡ t → k ≡ cond t n 15 → n ≡ k

@@ -3,3 +3,4 @@ pub mod Placed
 pub mod There
 pub mod Thirteen
 pub mod Back
+pub mod Completed

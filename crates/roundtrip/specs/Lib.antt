@@ -1,2 +1,3 @@
 pub mod ReadInto
+pub mod Stream
 pub mod Examples

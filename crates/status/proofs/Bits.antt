@@ -13,7 +13,7 @@ use Rattle.drive.specs.Status.{statusOf}
 use Rattle.modes.specs.declared.Mode.{Mode}
 use Rattle.modes.specs.declared.Mode.the-variants.{Homing}
 use Rattle.status.specs.declared.Flags.{Flags}
-use Rattle.status.specs.Statusword.{weightOf, reachedOf, acknowledgedOf, deviationOf, statuswordOf}
+use Rattle.status.specs.Statusword.{weightOf, reachedOf, acknowledgedOf, homingErrorOf, statuswordOf}
 
 -- the drive's bits stay below bit 10, and bit 8 is none of them
 pub status-low : (s : State) → (statusOf s < 1024) × (statusOf s / 2 ^ 8 % 2 ≡ 0)
@@ -58,7 +58,7 @@ module _ (s : State) (mode : Mode) (f : Flags) where
 
   abbrev parts : ℕ
   parts =
-      word (statusOf s) (flag (f .homed)) (flag (reachedOf mode f)) (flag (f .limited)) (flag (acknowledgedOf mode f)) (flag (deviationOf mode f))
+      word (statusOf s) (flag (f .homed)) (flag (reachedOf mode f)) (flag (f .limited)) (flag (acknowledgedOf mode f)) (flag (homingErrorOf mode f))
 
   in-parts : statuswordOf s mode f ≡ parts
   unfolding statuswordOf
@@ -68,7 +68,7 @@ module _ (s : State) (mode : Mode) (f : Flags) where
         factor (reachedOf mode f) (2 ^ 10),
         factor (f .limited) (2 ^ 11),
         factor (acknowledgedOf mode f) (2 ^ 12),
-        factor (deviationOf mode f) (2 ^ 13),
+        factor (homingErrorOf mode f) (2 ^ 13),
       )
 
   pub bit-8-homed : bitOf (statuswordOf s mode f) 8 ≡ f .homed

@@ -4,7 +4,7 @@ use modes::Mode;
 ghost use mathlib.Core.Path.{_≡_};
 ghost use Prim.Native.Nat.{_≤_};
 ghost use Rattle.drive.specs.Status.{statusOf};
-ghost use Rattle.status.specs.Statusword.{weightOf, reachedOf, acknowledgedOf, deviationOf, statuswordOf};
+ghost use Rattle.status.specs.Statusword.{weightOf, reachedOf, acknowledgedOf, homingErrorOf, statuswordOf};
 
 // What the statusword shows besides the drive's state.
 pub struct Flags {
@@ -43,8 +43,8 @@ fn acknowledged(mode: Mode, f: Flags) -> bool
 }
 
 // Bit 13: in homing mode, homing error.
-fn deviation(mode: Mode, f: Flags) -> bool
-    ensures { λ r. ⌜ r ≡ deviationOf mode f ⌝ }
+fn homing_error(mode: Mode, f: Flags) -> bool
+    ensures { λ r. ⌜ r ≡ homingErrorOf mode f ⌝ }
 {
     modes::is_mode(mode, Mode::Homing) & f.failed
 }
@@ -56,6 +56,6 @@ pub fn statusword(state: State, mode: Mode, f: Flags) -> u16
     let reached = weight(reached(mode, f), 1024);
     let limited = weight(f.limited, 2048);
     let acknowledged = weight(acknowledged(mode, f), 4096);
-    let deviation = weight(deviation(mode, f), 8192);
-    drive::status(state) + homed + reached + limited + acknowledged + deviation
+    let failed = weight(homing_error(mode, f), 8192);
+    drive::status(state) + homed + reached + limited + acknowledged + failed
 }

@@ -47,9 +47,10 @@ table =
     ∷ same (torqueOf (withMaximum 1000) Set1 true (negsuc 699)) (negsuc 599)
     ∷ same (torqueOf (withMaximum 1000) Set1 true (negsuc 32767)) (negsuc 599)
     ∷ same (torqueOf (withMaximum 1000) Set1 true (pos 800)) (pos 800)
-    -- the other set, a maximum below the limit, and a drive that is not live
+    -- the other set, a maximum below either limit, and a torque that is off
     ∷ same (torqueOf (withMaximum 1000) Set2 true (pos 900)) (pos 300)
     ∷ same (torqueOf (withMaximum 200) Set1 true (pos 900)) (pos 200)
+    ∷ same (torqueOf (withMaximum 200) Set1 true (negsuc 899)) (negsuc 199)
     ∷ same (torqueOf (withMaximum 1000) Set1 false (pos 900)) (pos 0)
     ∷ []
 

@@ -7,6 +7,6 @@ use Rattle.settings.specs.declared.Settings.{Settings}
 use Rattle.torque.specs.declared.LimitSet.{LimitSet}
 use Rattle.torque.specs.Limits.{chosenBounds}
 
--- on: the drive is live and the command matched
+-- on: the new state is Operation enabled or Quick stop active, and the command is matched
 unfoldable pub torqueOf : Settings → LimitSet → Bool → ℤ → ℤ
 torqueOf s set on demand = cond on (clamped demand (chosenBounds s set .low) (chosenBounds s set .high)) (pos 0)

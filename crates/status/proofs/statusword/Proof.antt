@@ -26,8 +26,8 @@ acknowledged-requires c κs = search needs
 weight-requires-4 : tie.Need-weight-requires-4
 weight-requires-4 c κs = search needs
 
-deviation-requires : tie.Need-deviation-requires
-deviation-requires c κs = search needs
+homing-error-requires : tie.Need-homing-error-requires
+homing-error-requires c κs = search needs
 
 weight-requires-5 : tie.Need-weight-requires-5
 weight-requires-5 c κs = search needs
@@ -70,7 +70,7 @@ returns c =
       w4 .weight4 .ensures .0,
       w4 .before .acknowledged .ensures,
       w5 .weight5 .ensures .0,
-      w5 .before .deviation .ensures,
+      w5 .before .homing-error .ensures,
     )
 
 pub statusword-spec : {M : Type 1} → statement M
@@ -83,7 +83,7 @@ statusword-spec =
     weight-requires-3
     acknowledged-requires
     weight-requires-4
-    deviation-requires
+    homing-error-requires
     weight-requires-5
     status-requires
     add-result

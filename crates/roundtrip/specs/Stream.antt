@@ -1,0 +1,26 @@
+-- A stream of words from the first one on, refused ones included: what is pending after it, and how it can end.
+-- Assumes nothing.
+use Prim.Native.Nat.{ℕ}
+use mathlib.Core.Path.{_≡_}
+use mathlib.Core.Bool.{true}
+use mathlib.Core.List.{List, [], _∷_, _++_}
+use Rattle.settings.specs.declared.Settings.{Settings}
+use Rattle.settings.specs.Check.{acceptable}
+use Rattle.words.specs.Encode.{wordsOf}
+use Rattle.reader.specs.declared.Pending.{Pending}
+use Rattle.reader.specs.Read.{emptyPending, readOf}
+
+-- the pending settings after some words, each read from what the one before left
+abbrev pub pendingFrom : Pending → List ℕ → Pending
+pendingFrom p [] = p
+pendingFrom p (w ∷ ws) = pendingFrom (readOf p w .pending) ws
+
+abbrev pub pendingAfter : List ℕ → Pending
+pendingAfter ws = pendingFrom emptyPending ws
+
+-- 01: "an unbroken run of due words from a start word on, none refused, … closed by an end word that meets no refusal": the words end in
+-- the fifteen words of settings, and these are acceptable
+pub record EndsIn (s : Settings) (ws : List ℕ) : Type 0 where
+  pub before : List ℕ
+  pub words : ws ≡ before ++ wordsOf s
+  pub sound : acceptable s ≡ true
