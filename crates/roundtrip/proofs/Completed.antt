@@ -34,7 +34,7 @@ use Rattle.roundtrip.proofs.Thirteen.{values-of, range-of}
 
 -- ---- from words to settings
 
-from-append : (p : Pending) (us vs : List ℕ) → pendingFrom p (us ++ vs) ≡ pendingFrom (pendingFrom p us) vs
+pub from-append : (p : Pending) (us vs : List ℕ) → pendingFrom p (us ++ vs) ≡ pendingFrom (pendingFrom p us) vs
 from-append p [] vs = refl
 from-append p (u ∷ us) vs = from-append (readOf p u .pending) us vs
 

@@ -12,6 +12,7 @@ use Rattle.settings.specs.declared.Settings.{Settings}
 use Rattle.torque.specs.declared.LimitSet.{LimitSet}
 use Rattle.torque.specs.Limits.{positiveOf, negativeOf, capOf}
 use Rattle.torque.specs.Torque.{torqueOf}
+use Rattle.torque.specs.Bounded.{Bounded}
 
 -- a bound that is further off
 up-to : (z : ℤ) (m n : ℕ) → z ≤ℤ pos m → m ≤ n → z ≤ℤ pos n
@@ -54,13 +55,6 @@ module _ (z : ℤ) (n p : ℕ) where
       go true e b = ≤ℤ-refl (negℤ (pos n))
       go false e true = across n p
       go false e false = not-below z (negℤ (pos n)) e
-
--- the four bounds of 01's torque rule
-pub record Bounded (s : Settings) (set : LimitSet) (t : ℤ) : Type 0 where
-  pub below-maximum : t ≤ℤ pos (s .maximum)
-  pub below-limit : t ≤ℤ pos (positiveOf s set)
-  pub above-maximum : negℤ (pos (s .maximum)) ≤ℤ t
-  pub above-limit : negℤ (pos (negativeOf s set)) ≤ℤ t
 
 -- a cap is at most each of the two
 cap-least : (m l : ℕ) → (capOf m l ≤ m) × (capOf m l ≤ l)

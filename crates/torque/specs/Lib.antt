@@ -1,3 +1,4 @@
 pub mod Limits
 pub mod Torque
+pub mod Bounded
 pub mod Examples

@@ -1,0 +1,145 @@
+-- Closed lists of ticks that complete a route, and lists that do not, each computed.
+-- Assumes nothing.
+use mathlib.Core.Path.{_≡_, refl, sym, _∙_}
+use mathlib.Core.Bool.{Bool, true, false, false≢true}
+use mathlib.Core.List.{List, [], _∷_, map, head-eq-of-cons-eq, tail-eq-of-cons-eq}
+use Prim.Native.Nat.{ℕ}
+use lib.IntN.{pos, _-ℤ_}
+use Rattle.counts.specs.Wrap.{modulo, signed, wrapped}
+use Rattle.counts.specs.Movement.{movementOf}
+use Rattle.homing.specs.declared.Switches.{Switches}
+use Rattle.homing.specs.declared.View.{View}
+use Rattle.homing.specs.Events.{eventCounts, limitCounts}
+use Rattle.homing.specs.Routes.{rowOf, planOf}
+use Rattle.homing.specs.Complete.{CompletesPlan}
+use Rattle.homing.specs.Places.{legAt, entered, limitAt, runningOf, startOf, stepAll, homedIn}
+use Rattle.homing.proofs.Simulation.{homing-iff}
+
+abbrev off : Switches
+off = record { positive = false; negative = false; home = false; index = false }
+
+abbrev home : Switches
+home = record { positive = false; negative = false; home = true; index = false }
+
+abbrev index : Switches
+index = record { positive = false; negative = false; home = false; index = true }
+
+abbrev positive : Switches
+positive = record { positive = true; negative = false; home = false; index = false }
+
+abbrev negative : Switches
+negative = record { positive = false; negative = true; home = false; index = false }
+
+abbrev homeAndPositive : Switches
+homeAndPositive = record { positive = true; negative = false; home = true; index = false }
+
+abbrev homeAndNegative : Switches
+homeAndNegative = record { positive = false; negative = true; home = true; index = false }
+
+-- a later tick: its position and switches; halted: with bit 8 set; released: with bit 4 clear
+pub data Tick : Type 0 where
+  at halted released : ℕ → Switches → Tick
+
+abbrev seen : Bool → Bool → ℕ → ℕ → Switches → Switches → View
+seen kept halt p q s t =
+    record { kept = kept; halted = halt; movement = movementOf (wrapped (pos q -ℤ pos p)); before = s; now = t }
+
+-- the ticks after a start at a position, as homing sees them
+abbrev views : ℕ → Switches → List Tick → List View
+views p s [] = []
+views p s (at q t ∷ ts) = seen true false p q s t ∷ views q t ts
+views p s (halted q t ∷ ts) = seen true true p q s t ∷ views q t ts
+views p s (released q t ∷ ts) = seen false false p q s t ∷ views q t ts
+
+-- a start of a method at a position with some switches, and the ticks after it
+pub record Example : Type 0 where
+  pub method : ℕ
+  pub position : ℕ
+  pub switches : Switches
+  pub ticks : List Tick
+
+abbrev start : ℕ → ℕ → Switches → List Tick → Example
+start method position switches ticks = record { method = method; position = position; switches = switches; ticks = ticks }
+
+abbrev watched : Example → List View
+watched e = views (e .position) (e .switches) (e .ticks)
+
+abbrev Completes : Example → Type 0
+Completes e = CompletesPlan (planOf (e .method) (e .switches .home)) (watched e)
+
+abbrev homes : Example → Bool
+homes e = homedIn (stepAll (startOf (e .method) (e .switches .home)) (e .method) (watched e))
+
+abbrev AllComplete : List Example → Type 0
+AllComplete [] = Unit
+AllComplete (e ∷ es) = Completes e × AllComplete es
+
+abbrev NoneCompletes : List Example → Type 0
+NoneCompletes [] = Unit
+NoneCompletes (e ∷ es) = (Completes e → ⊥) × NoneCompletes es
+
+all-complete : (es : List Example) → map homes es ≡ map (λ e. true) es → AllComplete es
+all-complete [] q = tt
+all-complete (e ∷ es) q =
+    (homing-iff (e .method) (e .switches .home) (watched e) .0 (head-eq-of-cons-eq q), all-complete es (tail-eq-of-cons-eq q))
+
+none-completes : (es : List Example) → map homes es ≡ map (λ e. false) es → NoneCompletes es
+none-completes [] q = tt
+none-completes (e ∷ es) q = (
+  λ c. false≢true (sym (head-eq-of-cons-eq q) ∙ homing-iff (e .method) (e .switches .home) (watched e) .1 c),
+  none-completes es (tail-eq-of-cons-eq q),
+)
+
+abbrev complete : List Example
+complete =
+    -- "Method 23, HOM off, started at 100: 110 on, 112 off, 108 on, 103 off is homed at 103."
+    start 23 100 off (at 110 home ∷ at 112 off ∷ at 108 home ∷ at 103 off ∷ [])
+    -- ticks after the last event undo nothing
+    ∷ start 23 100 off (at 110 home ∷ at 112 off ∷ at 108 home ∷ at 103 off ∷ released 103 positive ∷ [])
+    -- route b: the limit rises while the axis stands still
+    ∷ start 23 100 off (at 120 off ∷ at 120 positive ∷ at 115 home ∷ at 117 off ∷ at 116 home ∷ at 114 off ∷ [])
+    -- a limit rise in the tick of a's event is not looked at
+    ∷ start 23 100 off (at 110 homeAndPositive ∷ at 108 off ∷ [])
+    -- route c
+    ∷ start 23 100 home (at 95 off ∷ [])
+    ∷ start 26 100 home (at 105 off ∷ [])
+    -- route b of 28: NOT turns, and POT is not looked at
+    ∷ start 28 100 off (at 95 positive ∷ at 90 negative ∷ at 95 home ∷ at 99 off ∷ at 95 home ∷ [])
+    -- 33 and 34, whatever HOM is; 35 by the start tick alone
+    ∷ start 33 100 off (at 99 index ∷ [])
+    ∷ start 33 100 home (at 99 index ∷ [])
+    ∷ start 34 100 off (at 99 index ∷ at 100 off ∷ at 101 index ∷ [])
+    ∷ start 35 100 off []
+    ∷ []
+
+pub examples-complete : AllComplete complete
+unfolding rowOf legAt entered limitAt runningOf startOf eventCounts limitCounts wrapped modulo signed
+examples-complete = all-complete complete refl
+
+abbrev incomplete : List Example
+incomplete =
+    -- "Counting the drop at 112, while still coasting"
+    start 23 100 off (at 110 home ∷ at 112 off ∷ [])
+    -- a start alone, of a method with legs; a number that is no method
+    ∷ start 23 100 off []
+    ∷ start 33 100 home []
+    ∷ start 31 100 off []
+    -- the event of the last leg in a tick with bit 4 clear
+    ∷ start 23 100 home (released 95 off ∷ [])
+    -- bit 4 clear for one tick before it
+    ∷ start 23 100 home (released 99 home ∷ at 95 off ∷ [])
+    -- halted, the edge is lost
+    ∷ start 33 100 off (halted 99 index ∷ at 98 index ∷ [])
+    -- no movement
+    ∷ start 33 100 off (at 100 index ∷ [])
+    -- a limit in any other leg is an error
+    ∷ start 33 100 off (at 99 negative ∷ at 98 index ∷ [])
+    ∷ start 26 100 home (at 103 homeAndPositive ∷ at 105 off ∷ [])
+    ∷ start 23 100 off (at 110 home ∷ at 108 homeAndNegative ∷ at 103 off ∷ [])
+    -- the limit behind does not turn
+    ∷ start 23 100 off (at 120 negative ∷ at 115 home ∷ at 117 off ∷ at 116 home ∷ at 114 off ∷ [])
+    ∷ []
+
+pub examples-miss : NoneCompletes incomplete
+unfolding rowOf legAt entered limitAt runningOf startOf eventCounts limitCounts wrapped modulo signed
+examples-miss = none-completes incomplete refl

@@ -1,0 +1,113 @@
+// Homing (01: "Homing routes"): the legs of each method's routes, when a leg's event counts, and where homing stands after a tick.
+pub mod events;
+pub mod legs;
+
+use counts::Movement;
+use legs::Found;
+ghost use mathlib.Core.Path.{_≡_};
+ghost use Rattle.homing.specs.Places.{entered, limitAt, runningOf, startOf, stepOf};
+
+// The four switches (01: POT, NOT, HOM, Z).
+pub struct Switches {
+    pub positive: bool,
+    pub negative: bool,
+    pub home: bool,
+    pub index: bool,
+}
+
+// What homing sees of one tick after the start. kept: control bit 4 is set, homing is matched and the new state is Operation enabled;
+// before and now: the remembered switches and this tick's.
+pub struct View {
+    pub kept: bool,
+    pub halted: bool,
+    pub movement: Movement,
+    pub before: Switches,
+    pub now: Switches,
+}
+
+// Where homing stands. Running holds the running leg's place in its method's row.
+pub enum Phase {
+    Idle,
+    Running(u32),
+    Homed,
+    Failed,
+}
+
+// At a place, or homed where the route has no leg there.
+fn enter(method: u32, place: u32) -> Phase
+    ensures { λ r. ⌜ r ≡ entered method place ⌝ }
+{
+    let found = legs::leg_at(method, place);
+    match found {
+        Found::Leg(_) => Phase::Running(place),
+        Found::Nothing => Phase::Homed,
+    }
+}
+
+// A limit turns route a's first leg to route b's second; any other leg fails.
+fn at_limit(method: u32, place: u32) -> Phase
+    ensures { λ r. ⌜ r ≡ limitAt method place ⌝ }
+{
+    match method {
+        23..=30 => {
+            if place == 0 {
+                enter(method, legs::TURN)
+            } else {
+                Phase::Failed
+            }
+        }
+        _ => Phase::Failed,
+    }
+}
+
+// One tick in a leg.
+fn run(method: u32, place: u32, view: View) -> Phase
+    ensures { λ r. ⌜ r ≡ runningOf method place view ⌝ }
+{
+    let found = legs::leg_at(method, place);
+    match found {
+        Found::Nothing => Phase::Homed,
+        Found::Leg(leg) => {
+            if view.kept {
+                if events::event_counts(leg, view) {
+                    return enter(method, place + 1);
+                }
+                if events::limit_counts(leg, view) {
+                    at_limit(method, place)
+                } else {
+                    Phase::Running(place)
+                }
+            } else {
+                Phase::Idle
+            }
+        }
+    }
+}
+
+// Homing after its start tick; home is HOM in that tick. A number that is no method leaves homing idle.
+pub fn start(method: u32, home: bool) -> Phase
+    ensures { λ r. ⌜ r ≡ startOf method home ⌝ }
+{
+    match method {
+        23..=30 | 33..=35 => {
+            if home {
+                enter(method, legs::ON_HOME)
+            } else {
+                enter(method, 0)
+            }
+        }
+        _ => Phase::Idle,
+    }
+}
+
+// Homing after a later tick.
+pub fn step(phase: Phase, method: u32, view: View) -> Phase
+    ensures { λ r. ⌜ r ≡ stepOf phase method view ⌝ }
+{
+    match phase {
+        Phase::Idle => Phase::Idle,
+        Phase::Running(place) => run(method, place, view),
+        Phase::Homed => Phase::Homed,
+        Phase::Failed => Phase::Failed,
+    }
+}

@@ -1,0 +1,23 @@
+-- `speed::leg_speed` meets its contract.
+-- Assumes nothing.
+use mir.Facts.{toZ-ofZ}
+use mir.Syntax.{w32}
+use mir.Val.{SFits}
+use borrow.Author.Needs.{needs}
+use Rattle.speed.proofs.leg_speed.Statement.{statement}
+use Rattle.speed.proofs.leg_speed.Tie as tie
+
+signed-requires : tie.Need-signed-requires
+signed-requires c κs = search needs
+
+signed-requires-2 : tie.Need-signed-requires-2
+signed-requires-2 c κs = search needs
+
+returns : tie.Need-returns
+returns c = let r : SFits w32 (c .signed .result) = search needs in rw (toZ-ofZ r, c .signed .ensures, c .before .if1 .taken)
+
+returns-2 : tie.Need-returns-2
+returns-2 c = let r : SFits w32 (c .signed2 .result) = search needs in rw (toZ-ofZ r, c .signed2 .ensures, c .before .if1 .left)
+
+pub leg-speed-spec : {M : Type 1} → statement M
+leg-speed-spec = tie.close (tie.spec signed-requires signed-requires-2 returns returns-2)

@@ -1,0 +1,34 @@
+-- 01: "Speed: the running leg's signed speed; 0 if idle or halted."
+-- Assumes nothing.
+use Prim.Native.Nat.{ℕ, _-_, _^_, min}
+use mathlib.Core.Bool.{Bool, cond}
+use lib.IntN.{ℤ, pos, negℤ}
+use Rattle.settings.specs.declared.Settings.{Settings}
+use Rattle.homing.specs.declared.Phase.{Phase}
+use Rattle.homing.specs.declared.Phase.the-variants.{Idle, Running, Homed, Failed}
+use Rattle.homing.specs.declared.legs.Leg.{Leg}
+use Rattle.homing.specs.declared.legs.Found.{Found}
+use Rattle.homing.specs.declared.legs.Found.the-variants as found
+use Rattle.homing.specs.Places.{legAt}
+
+-- a magnitude with the sign of a direction. The least of it and 2 ^ 28 − 1 is a guard: in range it changes nothing (`proofs/Guard.antt`)
+unfoldable pub signedOf : Bool → ℕ → ℤ
+signedOf forward speed = cond forward (pos (min speed (2 ^ 28 - 1))) (negℤ (pos (min speed (2 ^ 28 - 1))))
+
+-- F fast, S slow
+abbrev pub legSpeed : Settings → Leg → ℤ
+legSpeed s leg = signedOf (leg .forward) (cond (leg .fast) (s .fast) (s .slow))
+
+abbrev pub foundSpeed : Settings → Found → ℤ
+foundSpeed s (found.Leg leg) = legSpeed s leg
+foundSpeed s found.Nothing = pos 0
+
+-- the speed of the leg that runs after the tick
+abbrev pub phaseSpeed : Settings → Phase → ℤ
+phaseSpeed s Idle = pos 0
+phaseSpeed s (Running place) = foundSpeed s (legAt (s .method) place)
+phaseSpeed s Homed = pos 0
+phaseSpeed s Failed = pos 0
+
+abbrev pub speedOf : Settings → Phase → Bool → ℤ
+speedOf s phase halted = cond halted (pos 0) (phaseSpeed s phase)

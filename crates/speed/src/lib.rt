@@ -1,0 +1,60 @@
+// The speed that a tick commands: that of the running homing leg.
+use homing::Phase;
+use homing::legs;
+use homing::legs::Found;
+use homing::legs::Leg;
+use settings::Settings;
+ghost use mathlib.Core.Path.{_≡_};
+ghost use Prim.Native.Nat.{_-_, _^_, min};
+ghost use Rattle.homing.specs.Places.{legAt};
+ghost use Rattle.speed.specs.Speed.{signedOf, legSpeed, foundSpeed, speedOf};
+
+// A speed is at most 2^28 - 1.
+fn capped(speed: u32) -> u32
+    ensures { λ r. ⌜ r ≡ min speed (2 ^ 28 - 1) ⌝ }
+{
+    if speed < 268435455 { speed } else { 268435455 }
+}
+
+// A magnitude with the sign of a direction.
+fn signed(forward: bool, speed: u32) -> i32
+    ensures { λ r. ⌜ r ≡ signedOf forward speed ⌝ }
+{
+    let magnitude = capped(speed) as i32;
+    if forward { magnitude } else { -magnitude }
+}
+
+fn leg_speed(s: Settings, leg: Leg) -> i32
+    ensures { λ r. ⌜ r ≡ legSpeed s leg ⌝ }
+{
+    if leg.fast {
+        signed(leg.forward, s.fast)
+    } else {
+        signed(leg.forward, s.slow)
+    }
+}
+
+fn running_speed(s: Settings, place: u32) -> i32
+    ensures { λ r. ⌜ r ≡ foundSpeed s (legAt (s .method) place) ⌝ }
+{
+    let found = legs::leg_at(s.method, place);
+    match found {
+        Found::Leg(leg) => leg_speed(s, leg),
+        Found::Nothing => 0,
+    }
+}
+
+// The speed of a tick that leaves homing in this phase.
+pub fn speed(s: Settings, phase: Phase, halted: bool) -> i32
+    ensures { λ r. ⌜ r ≡ speedOf s phase halted ⌝ }
+{
+    if halted {
+        return 0;
+    }
+    match phase {
+        Phase::Idle => 0,
+        Phase::Running(place) => running_speed(s, place),
+        Phase::Homed => 0,
+        Phase::Failed => 0,
+    }
+}
