@@ -31,7 +31,7 @@ module _ (m p : ℕ) where
   limit-alone h = rw (turn-rule m, h)
 
   module _ (v : View) where
-    pub run-end : legAt m p ≡ found.Nothing → runningOf m p v ≡ Homed
+    pub run-end : legAt m p ≡ found.Nothing → runningOf m p v ≡ Failed
     unfolding runningOf
     run-end e = rw e
 

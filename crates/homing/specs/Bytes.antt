@@ -60,6 +60,6 @@ decoded byte turned =
 abbrev pub between : ℕ → ℕ → ℕ → Bool
 between low high x = leb low x && leb x high
 
--- the rows are those of 23, 24, 25, 26, 33, 34 and 35; 27 to 30 use those of 23 to 26, and a number that is no method that of 35
+-- the rows are those of 23, 24, 25, 26, 33, 34 and 35; 27 to 30 use those of 23 to 26, and a number that is no method that of 35, which is empty
 unfoldable pub rowNumber : ℕ → ℕ
 rowNumber m = cond (between 23 26 m) (m - 23) (cond (between 27 30 m) (m - 27) (cond (between 33 34 m) (m - 29) 6))

@@ -56,7 +56,7 @@ abbrev pub CompletesTurn : List Leg → Option (List Leg) → List View → Type
 CompletesTurn [] t vs = ⊥
 CompletesTurn (l ∷ ls) t vs = Cut (Waits l) (Turns l) (CompletesAfterTurn t) vs
 
--- "a or b with HOM off, c with it on"
+-- "a or b with HOM off, c with it on": 33, 34 and 35 have no b, and their c is their a
 abbrev pub CompletesRoute : Plan → List View → Type 0
 CompletesRoute p vs = Completes (p .main) vs ⊎ CompletesTurn (p .main) (p .turn) vs
 

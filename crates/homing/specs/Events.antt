@@ -47,6 +47,7 @@ movementFits l v = not (l .moving) || along (l .forward) (v .movement)
 unfoldable pub eventCounts : Leg → View → Bool
 eventCounts l v = not (v .halted) && (movementFits l v && edgeSeen l v)
 
--- "A limit rise in travel direction, with or without movement"
+-- "A limit rise in travel direction, with or without movement"; and in a halted tick nothing counts. That the event of the same tick goes
+-- first is said where both are asked (`advance`, `tickIn`).
 unfoldable pub limitCounts : Leg → View → Bool
 limitCounts l v = not (v .halted) && rises (limitAhead (l .forward) (v .before)) (limitAhead (l .forward) (v .now))

@@ -26,11 +26,11 @@ rest (l ∷ ls) = ls
 abbrev four : List Leg → List Found → List Found
 four ls more = slot ls 0 ∷ slot ls 1 ∷ slot ls 2 ∷ slot ls 3 ∷ more
 
--- places 0 to 3 are route a, 4 to 7 route b from its second leg on, 8 to 11 route c
+-- no route has more than three legs, so each ends in an empty place: 0 to 3 are route a, 4 to 7 route b from its second leg on, 8 to 11 route c
 abbrev pub placesOf : Row → List Found
 placesOf r = four (r .a) (four (rest (r .b)) (four (r .c) []))
 
--- the place that a limit turns to, and the first of route c
+-- the place that a limit turns to, and the first of route c, for a start on HOM
 abbrev pub turnPlace : ℕ
 turnPlace = 4
 
@@ -66,16 +66,16 @@ hasTurn (some r) = turns (r .b)
 unfoldable pub limitAt : ℕ → ℕ → Phase
 limitAt method place = cond (hasTurn (rowOf method) && eqb place 0) (entered method turnPlace) Failed
 
--- a tick in the leg at a place; a place with no leg, where no start and no step leads, is the end of its route
+-- a tick in the leg at a place. A place with no leg, where no start and no step leads, fails.
 abbrev pub tickIn : ℕ → ℕ → View → Found → Phase
-tickIn method place v found.Nothing = Homed
+tickIn method place v found.Nothing = Failed
 tickIn method place v (found.Leg l) =
     cond (v .kept) (cond (eventCounts l v) (entered method (place + 1)) (cond (limitCounts l v) (limitAt method place) (Running place))) Idle
 
 unfoldable pub runningOf : ℕ → ℕ → View → Phase
 runningOf method place v = tickIn method place v (legAt method place)
 
--- the start tick: the first place of a or c. A number that is no method leaves homing idle.
+-- the start tick: the first place of a or c. A number that is no method makes homing idle.
 abbrev pub startIn : ℕ → Bool → Option Row → Phase
 startIn method home none = Idle
 startIn method home (some r) = entered method (cond home homePlace 0)

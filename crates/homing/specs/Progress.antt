@@ -1,4 +1,5 @@
--- 01, "Homing routes": homing tick by tick along a plan's legs, whatever the plan.
+-- 01, "Homing routes": homing tick by tick along a plan's legs, whatever the plan. It stands between the reading of a completed route
+-- (`Complete`) and the places that the public calls promise (`Places`): one theorem each way.
 -- Assumes nothing.
 use mathlib.Core.Bool.{Bool, true, false, cond}
 use mathlib.Core.List.{List, [], _∷_}
@@ -18,7 +19,8 @@ abbrev pub begin : List Leg → Option (List Leg) → Progress
 begin [] t = homed
 begin (l ∷ ls) t = running l ls t
 
--- "moves a's first leg to b's second; in any other leg it sets homing error and ends homing"
+-- "moves a's first leg (methods 23 to 30) to b's second; in any other leg, those of 33 and 34 included, it sets homing error and ends
+-- homing": only a's first leg of these has a turn
 abbrev pub onLimit : Option (List Leg) → Progress
 onLimit none = failed
 onLimit (some ls) = begin ls none

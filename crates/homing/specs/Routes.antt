@@ -110,7 +110,8 @@ lookup m (e ∷ es) = cond (eqb m (e .method)) (some (e .row)) (lookup m es)
 unfoldable pub rowOf : ℕ → Option Row
 rowOf m = lookup m table
 
--- the routes that a start allows: a or c, and beside an a the legs of b from its second on
+-- the routes that a start allows: a or c, and beside an a the legs of b from its second on. b's first leg is a's first awaiting the limit
+-- (`proofs/LimitLeg.antt`, computed for every method), so nothing but a's first leg need say it.
 pub record Plan : Type 0 where
   pub main : List Leg
   pub turn : Option (List Leg)

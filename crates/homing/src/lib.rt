@@ -66,7 +66,7 @@ fn run(method: u32, place: u32, view: View) -> Phase
 {
     let found = legs::leg_at(method, place);
     match found {
-        Found::Nothing => Phase::Homed,
+        Found::Nothing => Phase::Failed,
         Found::Leg(leg) => {
             if view.kept {
                 if events::event_counts(leg, view) {
@@ -84,7 +84,7 @@ fn run(method: u32, place: u32, view: View) -> Phase
     }
 }
 
-// Homing after its start tick; home is HOM in that tick. A number that is no method leaves homing idle.
+// Homing after its start tick; home is HOM in that tick. A number that is no method makes homing idle.
 pub fn start(method: u32, home: bool) -> Phase
     ensures { λ r. ⌜ r ≡ startOf method home ⌝ }
 {

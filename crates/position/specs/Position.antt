@@ -6,14 +6,17 @@ use lib.IntN.{ℤ, _+ℤ_}
 use lib.Signed.{ltZ}
 use Rattle.counts.specs.Wrap.{wrapped}
 use Rattle.counts.specs.Clamp.{clamped}
+use Rattle.drive.specs.declared.State.{State}
+use Rattle.drive.specs.declared.State.the-variants.{OperationEnabled}
+use Rattle.drive.specs.Transitions.{is}
 use Rattle.settings.specs.declared.Settings.{Settings}
 use Rattle.settings.specs.Gear.{gearedOf}
 use Rattle.position.specs.declared.Followed.{Followed}
 use Rattle.position.specs.declared.Followed.the-variants.{Target, Nothing}
 
--- the followed target, a value or none. matched: the tick's command is position and matched; enabled: the new state is Operation enabled
-abbrev pub followedOf : Bool → Bool → Bool → ℤ → Followed
-followedOf matched enabled homed target = cond (matched && enabled && homed) (Target target) Nothing
+-- the followed target, a value or none. matched: the tick's command is position and matched; the state is the new one
+abbrev pub followedOf : Bool → State → Bool → ℤ → Followed
+followedOf matched state homed target = cond (matched && is state OperationEnabled && homed) (Target target) Nothing
 
 -- the target within the stops
 abbrev pub limitedOf : Settings → ℤ → ℤ

@@ -1,4 +1,5 @@
 // The position that a tick commands: the followed target as a count, or the actual position.
+use drive::State;
 use settings::Settings;
 use settings::gear;
 ghost use mathlib.Core.Path.{_≡_};
@@ -11,9 +12,10 @@ pub enum Followed {
 }
 
 // A target is followed where position is matched, the drive is in Operation enabled and the axis is homed.
-pub fn follow(matched: bool, enabled: bool, homed: bool, target: i32) -> Followed
-    ensures { λ r. ⌜ r ≡ followedOf matched enabled homed target ⌝ }
+pub fn follow(matched: bool, state: State, homed: bool, target: i32) -> Followed
+    ensures { λ r. ⌜ r ≡ followedOf matched state homed target ⌝ }
 {
+    let enabled = drive::in_state(state, State::OperationEnabled);
     if matched & enabled & homed {
         Followed::Target(target)
     } else {

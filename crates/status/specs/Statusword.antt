@@ -4,6 +4,7 @@ use Prim.Native.Nat.{ℕ, _+_, _^_}
 use mathlib.Core.Bool.{Bool, true, false, not, _&&_, _||_}
 use Rattle.drive.specs.declared.State.{State}
 use Rattle.drive.specs.Status.{statusOf}
+use Rattle.homing.specs.declared.View.{View}
 use Rattle.modes.specs.declared.Mode.{Mode}
 use Rattle.modes.specs.declared.Mode.the-variants.{Homing, Position}
 use Rattle.modes.specs.Modes.{isMode}
@@ -12,6 +13,10 @@ use Rattle.status.specs.declared.Flags.{Flags}
 abbrev pub weightOf : Bool → ℕ → ℕ
 weightOf true weight = weight
 weightOf false weight = 0
+
+-- bit 11 (CiA 402: internal limit active): "11 if POT or NOT is on, or the followed target was clamped", whatever the switches were before
+abbrev pub limitedOf : View → Bool → Bool
+limitedOf v clamped = v .now .positive || v .now .negative || clamped
 
 -- bit 10 (CiA 402: target reached): "In mode 6: 10 unless homing runs"
 abbrev pub reachedOf : Mode → Flags → Bool
@@ -25,8 +30,7 @@ acknowledgedOf mode f = (isMode mode Homing && f .homed) || (isMode mode Positio
 abbrev pub homingErrorOf : Mode → Flags → Bool
 homingErrorOf mode f = isMode mode Homing && f .failed
 
--- the drive's bits, of which none is bit 8 or above 9; then 8, 10, 11 ("if POT or NOT is on, or the followed target was clamped", which is
--- what `limited` says), 12 and 13; "the rest 0"
+-- the drive's bits, of which none is bit 8 or above 9; then 8, 10, 11, 12 and 13; "the rest 0"
 unfoldable pub statuswordOf : State → Mode → Flags → ℕ
 statuswordOf s mode f =
     statusOf s

@@ -1,10 +1,11 @@
 // The statusword: the drive's bits, and those above bit 9 and bit 8 that homing, limits and the followed target set.
 use drive::State;
+use homing::View;
 use modes::Mode;
 ghost use mathlib.Core.Path.{_≡_};
 ghost use Prim.Native.Nat.{_≤_};
 ghost use Rattle.drive.specs.Status.{statusOf};
-ghost use Rattle.status.specs.Statusword.{weightOf, reachedOf, acknowledgedOf, homingErrorOf, statuswordOf};
+ghost use Rattle.status.specs.Statusword.{weightOf, limitedOf, reachedOf, acknowledgedOf, homingErrorOf, statuswordOf};
 
 // What the statusword shows besides the drive's state.
 pub struct Flags {
@@ -25,6 +26,14 @@ fn weight(flag: bool, weight: u16) -> u16
     ensures small { λ r. ⌜ r ≤ weight ⌝ }
 {
     if flag { weight } else { 0 }
+}
+
+// Bit 11: a limit switch is on, or the followed target was clamped.
+pub fn limited(view: View, clamped: bool) -> bool
+    ensures { λ r. ⌜ r ≡ limitedOf view clamped ⌝ }
+{
+    let now = view.now;
+    now.positive | now.negative | clamped
 }
 
 // Bit 10: in homing mode, that homing does not run.
