@@ -1,0 +1,14 @@
+-- `Axis::fresh` meets its contract.
+-- Assumes nothing.
+use borrow.Author.Needs.{needs}
+use Rattle.axis.proofs.Axis.fresh.Statement.{statement}
+use Rattle.axis.proofs.Axis.fresh.Tie as tie
+
+empty-requires : tie.Need-empty-requires
+empty-requires c κs = search needs
+
+returns : tie.Need-returns
+returns c = rw (c .empty .ensures)
+
+pub fresh-spec : {M : Type 1} → statement M
+fresh-spec = tie.close (tie.spec empty-requires returns)

@@ -1,0 +1,51 @@
+-- Demand 3, one statement about the whole list. For every list of settings words and ticks from a fresh axis, in any order, refused ones
+-- included: the settings in force are, in every field, the last ones activated; and each tick of the list, judged by the list up to it, is
+-- answered as `TickPromise` says. What is known of the list is read in `Known.antt`.
+-- Assumes nothing.
+use mathlib.Core.Path.{_≡_}
+use mathlib.Core.Bool.{true, false}
+use mathlib.Core.List.{List, _∷_, _++_}
+use mathlib.Core.Logic.{_↔_}
+use lib.IntN.{pos}
+use Rattle.counts.specs.Bit.{bitOf}
+use Rattle.settings.specs.declared.Settings.{Settings}
+use Rattle.drive.specs.Transitions.{liveOf}
+use Rattle.modes.specs.declared.Mode.the-variants.{Homing}
+use Rattle.modes.specs.Modes.{isMode}
+use Rattle.torque.specs.Bounded.{Bounded}
+use Rattle.axis.specs.declared.Active.{Active}
+use Rattle.axis.specs.declared.Active.the-variants.{Nothing, Set}
+use Rattle.axis.specs.declared.Tick.{Tick}
+use Rattle.axis.specs.declared.Answer.{Answer}
+use Rattle.axis.specs.Events.{Event, tick}
+use Rattle.axis.specs.Replies.{Reply, answered, axisOf, replies}
+use Rattle.axis.specs.Known.{Known, next, known, Homed}
+
+-- a tick that is not refused, under settings s; k is what is known of the list before it
+pub record Judged (s : Settings) (k : Known) (t : Tick) (a : Answer) : Type 0 where
+  pub number : a .number ≡ 0
+  -- the torque lies within the maximum and the limit chosen in the tick, each way
+  pub bounded : Bounded s (t .set) (a .torque)
+  -- and is zero unless the new state is Operation enabled or Quick stop active
+  pub idle : liveOf (next k (tick t) .state) ≡ false → a .torque ≡ pos 0
+  -- status bit 8, and in mode 6 bit 12, is set exactly when the ticks since the latest homing start complete a route
+  pub homed : (bitOf (a .status) 8 ≡ true) ↔ Homed (next k (tick t))
+  pub attained : isMode (next k (tick t) .shown) Homing ≡ true → (bitOf (a .status) 12 ≡ true) ↔ Homed (next k (tick t))
+
+-- refused with 8 exactly where no settings are in force
+abbrev pub TickPromise : Active → Known → Tick → Answer → Type 0
+TickPromise Nothing k t a = a .number ≡ 8
+TickPromise (Set s) k t a = Judged s k t a
+
+-- the reply at the place of a tick in the list
+pub record At (es before : List Event) (t : Tick) : Type 0 where
+  pub answer : Answer
+  pub later : List Reply
+  pub place : replies es ≡ replies before ++ answered answer ∷ later
+  pub promise : TickPromise (known before .settings) (known before) t answer
+
+pub record Demand3 (es : List Event) : Type 0 where
+  -- at every place of the list the settings in force are, in every field, those of the last activation, or none
+  pub in-force : (before after : List Event) → es ≡ before ++ after → axisOf before .active ≡ known before .settings
+  -- every tick of the list
+  pub each : (before : List Event) (t : Tick) (after : List Event) → es ≡ before ++ tick t ∷ after → At es before t

@@ -1,0 +1,9 @@
+pub mod Events
+pub mod Rules
+pub mod Word
+pub mod Answer
+pub mod Tick
+pub mod Replies
+pub mod Activation
+pub mod Known
+pub mod Demand
