@@ -7,3 +7,4 @@ pub mod Replies
 pub mod Activation
 pub mod Known
 pub mod Demand
+pub mod Whole

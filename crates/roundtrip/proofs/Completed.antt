@@ -47,7 +47,7 @@ no-end [] w q = nil≢cons q
 no-end (u ∷ us) w q = nil≢cons q
 
 -- the last of words that are read into settings completes them, from what the others left
-last-completes : {p : Pending} {ws : List ℕ} {s : Settings} → ReadInto p ws s → (us : List ℕ) (w : ℕ) → ws ≡ us ++ w ∷ [] → readOf (pendingFrom p us) w .outcome ≡ Complete s
+pub last-completes : {p : Pending} {ws : List ℕ} {s : Settings} → ReadInto p ws s → (us : List ℕ) (w : ℕ) → ws ≡ us ++ w ∷ [] → readOf (pendingFrom p us) w .outcome ≡ Complete s
 last-completes (last {p} {w = v} {s} e) [] w q = subst (λ (x : ℕ). readOf p x .outcome ≡ Complete s) (head-eq-of-cons-eq q) e
 last-completes (last e) (u ∷ us) w q = absurd (no-end us w (tail-eq-of-cons-eq q))
 last-completes (more z r) [] w q = absurd (none-read r (tail-eq-of-cons-eq q))
@@ -56,7 +56,7 @@ last-completes (more {p} {w = v} {ws} {s} z r) (u ∷ us) w q =
     (last-completes r us w (tail-eq-of-cons-eq q))
 
 -- two lists with a last element each are equal only as a whole
-snoc-inj : (us vs : List ℕ) (u v : ℕ) → us ++ u ∷ [] ≡ vs ++ v ∷ [] → (us ≡ vs) × (u ≡ v)
+pub snoc-inj : (us vs : List ℕ) (u v : ℕ) → us ++ u ∷ [] ≡ vs ++ v ∷ [] → (us ≡ vs) × (u ≡ v)
 snoc-inj [] [] u v q = (refl, head-eq-of-cons-eq q)
 snoc-inj [] (y ∷ vs) u v q = absurd (no-end vs v (tail-eq-of-cons-eq q))
 snoc-inj (x ∷ us) [] u v q = absurd (no-end us u (sym (tail-eq-of-cons-eq q)))
