@@ -101,7 +101,7 @@ module _ (a : Axis) (k : Known) (m : Matches a k) where
         phase =
             rw (starts, view, phase)
             (phase-step s (startsIn (k .control) t shown after) (t .switches .home) (viewOf (k .switches) (k .position) t shown after) (k .since)
-            ∙ ap (λ (x : Active). phaseFor x (sinceAfter s k t shown after)) (sym e));
+            ∙ ap (λ (x : Active). phaseFor x (sinceAfter k t shown after)) (sym e));
       }
 
   keep-tick : (t : Tick) → Matches (tickOf a t .axis) (next k (tick t))

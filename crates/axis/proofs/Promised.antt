@@ -29,7 +29,7 @@ use Rattle.axis.specs.Rules.{matchedIn, demandIn}
 use Rattle.axis.specs.Answer.{flagsOf, torqueOn, answerIn}
 use Rattle.axis.specs.Tick.{newMode, newState, newPhase, momentOf, axisIn, tickUnder, tickOf, freshAxis}
 use Rattle.axis.specs.Replies.{Reply, answered, leftBy, axisFrom, repliesFrom, axisOf, replies}
-use Rattle.axis.specs.Known.{Known, Since, never, start, afterTick, next, known, CompletesSince, Homed}
+use Rattle.axis.specs.Known.{Known, Since, never, start, afterTick, next, known, CompletesSince, RouteCompleted}
 use Rattle.axis.specs.Demand.{Judged, TickPromise, At, Demand3}
 use Rattle.axis.proofs.Matches.{phaseFor, Matches}
 use Rattle.axis.proofs.Kept.{keep-under, matches}
@@ -65,7 +65,7 @@ module _ (a : Axis) (k : Known) (m : Matches a k) (t : Tick) where
     unfolding axisIn
     off h = let l : liveOf (newState s a t) ≡ false = ap liveOf (after .state) ∙ h in rw l
 
-    homed-known : (homedIn (newPhase s a t) ≡ true) ↔ Homed (next k (tick t))
+    homed-known : (homedIn (newPhase s a t) ≡ true) ↔ RouteCompleted (next k (tick t))
     unfolding axisIn
     homed-known = through (ap homedIn (after .phase)) (phase-homed (next k (tick t) .settings) (next k (tick t) .since))
 
@@ -80,7 +80,7 @@ module _ (a : Axis) (k : Known) (m : Matches a k) (t : Tick) where
         record {
           number = refl;
           bounded = bounded s (t .set) (torqueOn (momentOf s a t)) (wholeDemand (demandIn s t));
-          idle = λ h. rw (off h) (zero-when-off s (t .set) (wholeDemand (demandIn s t)));
+          zero-unless-live = λ h. rw (off h) (zero-when-off s (t .set) (wholeDemand (demandIn s t)));
           homed = through (bit-8-homed (newState s a t) (newMode a t) flags) homed-known;
           attained = λ h.
               through (ap (λ (mode : Mode). bitOf (statuswordOf (newState s a t) mode flags) 12) (in-homing h) ∙ bit-12-homed (newState s a t) flags)

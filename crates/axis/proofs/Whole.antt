@@ -10,6 +10,7 @@ use Rattle.settings.specs.declared.Settings.{Settings}
 use Rattle.settings.specs.declared.Refusal.{Refusal}
 use Rattle.settings.specs.declared.Refusal.the-variants.{DriveActive}
 use Rattle.settings.specs.declared.Verdict.the-variants as verdict
+use Rattle.settings.specs.Refusal.{numberOf}
 use Rattle.settings.specs.Check.{acceptable}
 use Rattle.settings.proofs.Numbers.{passes}
 use Rattle.words.specs.Word.{kindOf, wordOf as wordBy}
@@ -21,6 +22,7 @@ use Rattle.reader.specs.declared.Reading.{Reading}
 use Rattle.reader.specs.declared.Outcome.{Outcome}
 use Rattle.reader.specs.declared.Outcome.the-variants.{Refused, Stored, Complete}
 use Rattle.reader.specs.Read.{emptyPending, readOf, outcomeNumber}
+use Rattle.reader.proofs.Numbers.{never-7}
 use Rattle.reader.proofs.Accepted.{AcceptedBy, ReadBy, refuses, accepted, begins, keeps, closes, read-by, accepted-by}
 use Rattle.drive.specs.Transitions.{liveOf}
 use Rattle.roundtrip.specs.ReadInto.{ReadInto, last, more}
@@ -37,7 +39,7 @@ use Rattle.axis.specs.Tick.{newPhase, axisIn, tickUnder, tickOf}
 use Rattle.axis.specs.Answer.{answerIn}
 use Rattle.axis.specs.Events.{Event, word, tick}
 use Rattle.axis.specs.Replies.{Reply, said, answered, leftBy, axisFrom, repliesFrom}
-use Rattle.axis.specs.Whole.{RefusedWord, RefusedTick, wordsIn, AllAccepted, Activates}
+use Rattle.axis.specs.Whole.{Unseen, RefusedWord, RefusedWords, RefusedTick, RefusedTicks, wordsIn, AllAccepted, Activates, RoundTrip, EndsLive, Given7, Given8}
 
 -- ---- a refused word
 
@@ -61,13 +63,13 @@ tick-pending a p t = go (a .active)
     go Nothing = (refl, refl)
     go (Set s) = (refl, refl)
 
-unseen-from : (a : Axis) (p : Pending) (ts : List Tick) → repliesFrom (withPending a p) (map tick ts) ≡ repliesFrom a (map tick ts)
+pub unseen-from : Unseen
 unseen-from a p [] = refl
 unseen-from a p (t ∷ ts) =
     let e = tick-pending a p t in
     rw (e .0, e .1, unseen-from (tickOf a t .axis) p ts)
 
-pub refused-word : (a : Axis) (w : ℕ) (r : Refusal) → wordOf a w .verdict ≡ verdict.Refused r → RefusedWord a w
+pub refused-word : RefusedWords
 unfolding wordOf
 refused-word a w r e = record { left = left; unseen = λ ts. rw left (unseen-from a emptyPending ts) }
   where
@@ -93,7 +95,7 @@ refused-word a w r e = record { left = left; unseen = λ ts. rw left (unseen-fro
 
 -- ---- a refused tick
 
-pub refused-tick : (a : Axis) (t : Tick) → (tickOf a t .answer .number ≡ 0 → ⊥) → RefusedTick a t
+pub refused-tick : RefusedTicks
 unfolding tickOf answerIn
 refused-tick a t n = go (a .active) refl
   where
@@ -177,8 +179,7 @@ accepted-append a [] w h e = (e, tt)
 accepted-append a (word v ∷ es) w h e = (h .0, accepted-append (wordOf a v .axis) es w (h .1) e)
 accepted-append a (tick t ∷ es) w h e = accepted-append (tickOf a t .axis) es w h e
 
-pub activates : (a : Axis) (s : Settings) (es : List Event) (w : ℕ) → acceptable s ≡ true → wordsIn es ++ w ∷ [] ≡ wordsOf s
-    → liveOf (axisFrom a es .state) ≡ false → Activates a s es w
+pub activates : RoundTrip
 unfolding wordsOf wordOf valuesOf
 activates a s es w ok e idle =
     let front = wordsFrom 0 (valuesOf s) in
@@ -197,3 +198,37 @@ activates a s es w ok e idle =
   where
     unstored : Complete s ≡ Stored → ⊥
     unstored q = let z : _≡_ {A = ℕ} 0 1 = cc in omega arith
+
+-- ---- 7 and 8 in their cases, and in no other
+
+pub given-7 : Given7
+unfolding wordOf
+given-7 a w = (there-is, λ e. rw (e .closes, e .live))
+  where
+    b : Axis
+    b = withPending a (readOf (a .pending) w .pending)
+
+    not-accepted : {X : Type 0} → verdict.Accepted ≡ verdict.Refused DriveActive → X
+    not-accepted q = let z : _≡_ {A = ℕ} 0 1 = cc in absurd (omega arith)
+
+    go : (o : Outcome) → readOf (a .pending) w .outcome ≡ o → taken b o .verdict ≡ verdict.Refused DriveActive → EndsLive a w
+    go (Refused r) e q =
+        let n : r ≡ DriveActive = cc in
+        absurd (never-7 (a .pending) w (ap outcomeNumber e ∙ ap numberOf n))
+    go Stored e q = not-accepted q
+    go (Complete s) e q = live (liveOf (a .state)) refl
+      where
+        live : (l : Bool) → liveOf (a .state) ≡ l → EndsLive a w
+        live true h = record { settings = s; closes = e; live = h }
+        live false h = not-accepted (rw h at q)
+
+    there-is : wordOf a w .verdict ≡ verdict.Refused DriveActive → EndsLive a w
+    there-is q = go (readOf (a .pending) w .outcome) refl q
+
+pub given-8 : Given8
+unfolding tickOf answerIn
+given-8 a t = (λ q. go (a .active) refl q, λ e. rw e)
+  where
+    go : (x : Active) → a .active ≡ x → tickUnder x a t .answer .number ≡ 8 → a .active ≡ Nothing
+    go Nothing e q = e
+    go (Set s) e q = absurd (omega arith)

@@ -1,6 +1,7 @@
 -- 01: "'Taken over' is read from the list too: an unbroken run of due words from a start word on, none refused, ticks aside, closed by an
 -- end word that meets no refusal; the sheet's fields are what these words carry." Such a run is fifteen words, those of the settings that
--- they carry; so the settings that words complete are read off their last fifteen.
+-- they carry; so the settings that words complete are read off their last fifteen. Refusals 1 to 6 are met here; 7, the live drive, in
+-- `Known.antt`, `activates`.
 -- Assumes nothing.
 use Prim.Native.Nat.{ℕ, _-_}
 use mathlib.Core.Bool.{Bool, true, false, cond, _&&_}

@@ -1,6 +1,9 @@
 -- Demand 3, one statement about the whole list. For every list of settings words and ticks from a fresh axis, in any order, refused ones
 -- included: the settings in force are, in every field, the last ones activated; and each tick of the list, judged by the list up to it, is
--- answered as `TickPromise` says. What is known of the list is read in `Known.antt`.
+-- answered as `TickPromise` says. What is known of a list is read from the list alone, in `Known.antt`.
+-- Settings are 01's sheet; activated is taken over; to complete a route is to spell it; an Event is a word or a tick, not a leg's event.
+-- `replies` and `axisOf` run `wordOf` and `tickOf`, which the public calls `Axis::word` and `Axis::tick` promise to equal.
+-- The theorem is `demand3 : (es : List Event) → Demand3 es`, in `proofs/Promised.antt`.
 -- Assumes nothing.
 use mathlib.Core.Path.{_≡_}
 use mathlib.Core.Bool.{true, false}
@@ -19,25 +22,29 @@ use Rattle.axis.specs.declared.Tick.{Tick}
 use Rattle.axis.specs.declared.Answer.{Answer}
 use Rattle.axis.specs.Events.{Event, tick}
 use Rattle.axis.specs.Replies.{Reply, answered, axisOf, replies}
-use Rattle.axis.specs.Known.{Known, next, known, Homed}
+use Rattle.axis.specs.Known.{Known, next, known, RouteCompleted}
 
--- a tick that is not refused, under settings s; k is what is known of the list before it
+-- a tick under settings s, answered a; k is what is known of the list before it, `next k (tick t)` of the list up to it
 pub record Judged (s : Settings) (k : Known) (t : Tick) (a : Answer) : Type 0 where
+  -- it is not refused
   pub number : a .number ≡ 0
   -- the torque lies within the maximum and the limit chosen in the tick, each way
   pub bounded : Bounded s (t .set) (a .torque)
   -- and is zero unless the new state is Operation enabled or Quick stop active
-  pub idle : liveOf (next k (tick t) .state) ≡ false → a .torque ≡ pos 0
-  -- status bit 8, and in mode 6 bit 12, is set exactly when the ticks since the latest homing start complete a route
-  pub homed : (bitOf (a .status) 8 ≡ true) ↔ Homed (next k (tick t))
-  pub attained : isMode (next k (tick t) .shown) Homing ≡ true → (bitOf (a .status) 12 ≡ true) ↔ Homed (next k (tick t))
+  pub zero-unless-live : liveOf (next k (tick t) .state) ≡ false → a .torque ≡ pos 0
+  -- status bit 8 is set exactly when the ticks from the latest homing start since the last activation, up to this one, complete a route of
+  -- the method in force
+  pub homed : (bitOf (a .status) 8 ≡ true) ↔ RouteCompleted (next k (tick t))
+  -- and so is bit 12 where mode 6 is shown
+  pub attained : isMode (next k (tick t) .shown) Homing ≡ true → ((bitOf (a .status) 12 ≡ true) ↔ RouteCompleted (next k (tick t)))
 
--- refused with 8 exactly where no settings are in force
+-- where no settings are in force a tick is refused with 8, and nowhere else
 abbrev pub TickPromise : Active → Known → Tick → Answer → Type 0
 TickPromise Nothing k t a = a .number ≡ 8
 TickPromise (Set s) k t a = Judged s k t a
 
--- the reply at the place of a tick in the list
+-- a tick after the events `before` of the list. Every word and tick gets one reply: first those to `before`, then this tick's answer, then
+-- the later ones; so `place` leaves no choice of the answer.
 pub record At (es before : List Event) (t : Tick) : Type 0 where
   pub answer : Answer
   pub later : List Reply

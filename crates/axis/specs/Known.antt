@@ -36,7 +36,7 @@ pub record Known : Type 0 where
   -- the drive's state and the shown mode, by their own rules
   pub state : State
   pub shown : Mode
-  -- control word, switches and position of the tick before
+  -- control word, switches and position of the last tick not refused; zeros before any
   pub control : ℕ
   pub switches : Switches
   pub position : ℤ
@@ -59,7 +59,7 @@ atFirst =
       since = never;
     }
 
--- the settings that one word more activates: none while the drive is live
+-- the settings that one word more activates, or nothing: none while the drive is live
 abbrev pub activates : Known → List ℕ → Active
 activates k ws = cond (liveOf (k .state)) Nothing (completedBy ws)
 
@@ -93,8 +93,8 @@ abbrev pub seen : Since → View → Since
 seen never v = never
 seen (start home views) v = start home (views ++ v ∷ [])
 
-abbrev pub sinceAfter : Settings → Known → Tick → Mode → State → Since
-sinceAfter s k t mode state =
+abbrev pub sinceAfter : Known → Tick → Mode → State → Since
+sinceAfter k t mode state =
     cond (startsIn (k .control) t mode state) (start (t .switches .home) []) (seen (k .since) (viewOf (k .switches) (k .position) t mode state))
 
 -- with no settings in force a tick is refused, and changes nothing
@@ -109,7 +109,7 @@ afterTick (Set s) k t =
       control = t .control;
       switches = t .switches;
       position = t .position;
-      since = sinceAfter s k t (modeAfter (k .shown) (k .state) t) (stateAfter s (k .state) (k .control) t);
+      since = sinceAfter k t (modeAfter (k .shown) (k .state) t) (stateAfter s (k .state) (k .control) t);
     }
 
 abbrev pub next : Known → Event → Known
@@ -129,5 +129,5 @@ CompletesSince Nothing since = ⊥
 CompletesSince (Set s) never = ⊥
 CompletesSince (Set s) (start home views) = CompletesPlan (planOf (s .method) home) views
 
-abbrev pub Homed : Known → Type 0
-Homed k = CompletesSince (k .settings) (k .since)
+abbrev pub RouteCompleted : Known → Type 0
+RouteCompleted k = CompletesSince (k .settings) (k .since)

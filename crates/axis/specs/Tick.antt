@@ -51,7 +51,8 @@ phaseAfter phase method starting v = cond starting (startOf method (v .now .home
 unfoldable pub newPhase : Settings → Axis → Tick → Phase
 newPhase s a t = phaseAfter (a .phase) (s .method) (starting s a t) (newView s a t)
 
--- "home is that tick's position": of the tick in which the axis becomes homed, which a start makes of 35 anew
+-- "home is that tick's position": of the tick in which the axis becomes homed. A start under 35 homes anew, so home moves even if
+-- the axis was homed.
 abbrev pub homeAfter : ℤ → Bool → Bool → Bool → ℤ → ℤ
 homeAfter home starting before after position = cond (after && (starting || not before)) position home
 

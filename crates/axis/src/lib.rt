@@ -1,4 +1,4 @@
-// One axis, fed by settings words and ticks (01: "The axis").
+// One axis, fed by settings words and ticks.
 mod answers;
 mod moments;
 

@@ -94,3 +94,7 @@ module _ (p : Pending) (w : ℕ) where
 
   given-6 : (outcomeNumber (readOf p w .outcome) ≡ 6) ↔ ((outOfSequence p w ≡ false) × ((unknownLayout w ≡ false) × ((outOfRange w ≡ false) × ((checksumMismatch p w ≡ false) × ((limitsCrossed p w ≡ false) × (outOfReach p w ≡ true))))))
   given-6 = rw read-number (skip (outOfSequence p w) 1 6 _ (λ e. omega arith) (skip (unknownLayout w) 2 6 _ (λ e. omega arith) (skip (outOfRange w) 3 6 _ (λ e. omega arith) (skip (checksumMismatch p w) 4 6 _ (λ e. omega arith) (skip (limitsCrossed p w) 5 6 _ (λ e. omega arith) (hit (outOfReach p w) 6 0 (λ e. omega arith)))))))
+
+  -- 7 is the axis's
+  pub never-7 : outcomeNumber (readOf p w .outcome) ≡ 7 → ⊥
+  never-7 = rw read-number (miss (outOfSequence p w) 1 7 _ (λ e. omega arith) (miss (unknownLayout w) 2 7 _ (λ e. omega arith) (miss (outOfRange w) 3 7 _ (λ e. omega arith) (miss (checksumMismatch p w) 4 7 _ (λ e. omega arith) (miss (limitsCrossed p w) 5 7 _ (λ e. omega arith) (miss (outOfReach p w) 6 7 0 (λ e. omega arith) (λ e. omega arith)))))))

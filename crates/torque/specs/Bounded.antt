@@ -6,7 +6,7 @@ use Rattle.settings.specs.declared.Settings.{Settings}
 use Rattle.torque.specs.declared.LimitSet.{LimitSet}
 use Rattle.torque.specs.Limits.{positiveOf, negativeOf}
 
--- the four bounds of 01's torque rule
+-- the two bounds of 01's torque rule, each a lesser of two: four inequalities
 pub record Bounded (s : Settings) (set : LimitSet) (t : ℤ) : Type 0 where
   pub below-maximum : t ≤ℤ pos (s .maximum)
   pub below-limit : t ≤ℤ pos (positiveOf s set)
