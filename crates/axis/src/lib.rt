@@ -226,12 +226,6 @@ impl Axis {
         self.active
     }
 
-    pub fn drive_state(self) -> State
-        ensures { λ r. ⌜ r ≡ self .state ⌝ }
-    {
-        self.state
-    }
-
     pub fn is_homed(self) -> bool
         ensures { λ r. ⌜ r ≡ homedIn (self .phase) ⌝ }
     {
