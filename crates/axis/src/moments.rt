@@ -95,7 +95,7 @@ fn home_after(home: i32, starting: bool, before: bool, after: bool, position: i3
 }
 
 // The target of a position command.
-fn target(command: Command, matched: bool, state: State, homed: bool) -> Followed
+fn command_target(command: Command, matched: bool, state: State, homed: bool) -> Followed
     ensures { λ r. ⌜ r ≡ targetOf command matched state homed ⌝ }
 {
     match command {
@@ -133,6 +133,6 @@ pub fn reached(axis: Axis, s: Settings, t: Tick) -> Moment
         view: view,
         phase: phase,
         home: home_after(axis.home, starting, homed(before), is_homed, t.position),
-        followed: target(command, matched, state, is_homed),
+        followed: command_target(command, matched, state, is_homed),
     }
 }

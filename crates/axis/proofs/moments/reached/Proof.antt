@@ -50,8 +50,8 @@ homed-requires-2 c κs = search needs
 home-after-requires : tie.Need-home-after-requires
 home-after-requires c κs = search needs
 
-target-requires : tie.Need-target-requires
-target-requires c κs = search needs
+command-target-requires : tie.Need-command-target-requires
+command-target-requires c κs = search needs
 
 returns : tie.Need-returns
 returns c =
@@ -80,7 +80,7 @@ returns c =
     (home .before .before .before .homed2 .ensures)
     (toZ-ofZ r ∙ home .home-after .ensures
     ∙ ap₂ (λ (x y : ℤ). homeAfter x (starts .starts .result) (home .before .before .before .homed2 .result) (latched .before .homed .result) y) (toZ-ofZ was) (toZ-ofZ now))
-    (c .target .ensures)
+    (c .command-target .ensures)
 
 pub reached-spec : {M : Type 1} → statement M
 reached-spec =
@@ -99,5 +99,5 @@ reached-spec =
     latched-requires
     homed-requires-2
     home-after-requires
-    target-requires
+    command-target-requires
     returns)
