@@ -8,3 +8,4 @@ pub mod Activation
 pub mod Known
 pub mod Demand
 pub mod Whole
+pub mod Examples
