@@ -12,7 +12,7 @@ use Rattle.modes.specs.declared.Mode.{Mode}
 use Rattle.modes.specs.Modes.{shownOf, matchedOf}
 use Rattle.commands.specs.declared.Demand.{Demand}
 use Rattle.commands.specs.Commands.{modeOf, demandOf, alarmOf}
-use Rattle.homing.specs.declared.View.{View}
+use Rattle.legs.specs.declared.events.View.{View}
 use Rattle.homing.specs.declared.Phase.{Phase}
 use Rattle.homing.specs.Places.{homedIn}
 use Rattle.position.specs.declared.Followed.{Followed}

@@ -29,9 +29,10 @@ use Rattle.drive.specs.Transitions.{nextOf}
 use Rattle.hybrid.specs.Hybrid.{quotientOf, sizeOf, negative, wholeOf}
 use Rattle.commands.specs.declared.Command.{Command}
 use Rattle.commands.specs.declared.Command.the-variants.{Hybrid, Homing, Position, Torque, Rest}
-use Rattle.homing.specs.declared.Switches.{Switches}
-use Rattle.homing.specs.Events.{eventCounts, limitCounts}
-use Rattle.homing.specs.Routes.{rowOf}
+use Rattle.legs.specs.declared.events.Switches.{Switches}
+use Rattle.legs.specs.Events.{eventCounts, limitCounts}
+use Rattle.legs.specs.Routes.{rowOf}
+use Rattle.legs.specs.Places.{legAt}
 use Rattle.homing.specs.Places as places
 use Rattle.torque.specs.declared.LimitSet.the-variants.{Set1}
 use Rattle.torque.specs.Limits.{capOf}
@@ -252,11 +253,11 @@ all [] = true
 all (b ∷ bs) = b && all bs
 
 holds : all table ≡ true
-unfolding table words-S modulo signed wrapped floorDiv clamped methodOk gearedOf inReach limitsVerdict total checksumOf settingsOf fieldOk startOf fieldOf endOf readOf controlCommandOf nextOf quotientOf sizeOf negative wholeOf ofBits sub mul div ofInt eventCounts limitCounts rowOf places.legAt places.entered places.runningOf places.startOf capOf torqueOf placeOf statuswordOf answerIn wordOf newPhase axisIn tickOf
+unfolding table words-S modulo signed wrapped floorDiv clamped methodOk gearedOf inReach limitsVerdict total checksumOf settingsOf fieldOk startOf fieldOf endOf readOf controlCommandOf nextOf quotientOf sizeOf negative wholeOf ofBits sub mul div ofInt eventCounts limitCounts rowOf legAt places.entered places.runningOf places.startOf capOf torqueOf placeOf statuswordOf answerIn wordOf newPhase axisIn tickOf
 holds = refl
 
 homed-holds : all homed-table ≡ true
-unfolding homed-table words-S modulo signed wrapped floorDiv methodOk gearedOf inReach limitsVerdict total checksumOf settingsOf fieldOk startOf fieldOf endOf readOf controlCommandOf nextOf eventCounts limitCounts rowOf places.legAt places.entered places.limitAt places.runningOf places.startOf statuswordOf answerIn wordOf newPhase axisIn tickOf
+unfolding homed-table words-S modulo signed wrapped floorDiv methodOk gearedOf inReach limitsVerdict total checksumOf settingsOf fieldOk startOf fieldOf endOf readOf controlCommandOf nextOf eventCounts limitCounts rowOf legAt places.entered places.limitAt places.runningOf places.startOf statuswordOf answerIn wordOf newPhase axisIn tickOf
 homed-holds = refl
 
 readings-hold : all reading-table ≡ true

@@ -12,9 +12,9 @@ use Rattle.drive.specs.declared.State.the-variants.{NotReady}
 use Rattle.drive.specs.Transitions.{liveOf}
 use Rattle.modes.specs.declared.Mode.{Mode}
 use Rattle.modes.specs.declared.Mode.the-variants.{None}
-use Rattle.homing.specs.declared.Switches.{Switches}
-use Rattle.homing.specs.declared.View.{View}
-use Rattle.homing.specs.Routes.{planOf}
+use Rattle.legs.specs.declared.events.Switches.{Switches}
+use Rattle.legs.specs.declared.events.View.{View}
+use Rattle.legs.specs.Routes.{planOf}
 use Rattle.homing.specs.Complete.{CompletesPlan}
 use Rattle.axis.specs.declared.Active.{Active}
 use Rattle.axis.specs.declared.Active.the-variants.{Nothing, Set}

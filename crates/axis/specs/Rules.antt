@@ -16,8 +16,8 @@ use Rattle.modes.specs.declared.Mode.the-variants.{Homing}
 use Rattle.modes.specs.Modes.{isMode, shownOf, matchedOf}
 use Rattle.commands.specs.declared.Demand.{Demand}
 use Rattle.commands.specs.Commands.{modeOf, demandOf, alarmOf}
-use Rattle.homing.specs.declared.Switches.{Switches}
-use Rattle.homing.specs.declared.View.{View}
+use Rattle.legs.specs.declared.events.Switches.{Switches}
+use Rattle.legs.specs.declared.events.View.{View}
 use Rattle.axis.specs.declared.Tick.{Tick}
 
 -- the shown mode after a tick: by the mode shown and the state before it

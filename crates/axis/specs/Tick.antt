@@ -13,8 +13,8 @@ use Rattle.modes.specs.declared.Mode.{Mode}
 use Rattle.modes.specs.declared.Mode.the-variants.{None}
 use Rattle.commands.specs.declared.Command.{Command}
 use Rattle.commands.specs.declared.Command.the-variants.{Hybrid, Homing, Position, Torque, Rest}
-use Rattle.homing.specs.declared.Switches.{Switches}
-use Rattle.homing.specs.declared.View.{View}
+use Rattle.legs.specs.declared.events.Switches.{Switches}
+use Rattle.legs.specs.declared.events.View.{View}
 use Rattle.homing.specs.declared.Phase.{Phase}
 use Rattle.homing.specs.declared.Phase.the-variants.{Idle}
 use Rattle.homing.specs.Places.{startOf, stepOf, homedIn}

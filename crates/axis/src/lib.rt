@@ -5,7 +5,7 @@ mod moments;
 use commands::Command;
 use drive::State;
 use homing::Phase;
-use homing::Switches;
+use legs::events::Switches;
 use modes::Mode;
 use moments::Moment;
 use reader::Outcome;

@@ -5,7 +5,7 @@ use commands::Command;
 use commands::Demand;
 use drive::State;
 use homing::Phase;
-use homing::View;
+use legs::events::View;
 use modes::Mode;
 use position::Followed;
 use settings::Settings;

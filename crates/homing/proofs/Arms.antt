@@ -7,14 +7,15 @@ use Prim.Native.Nat.{ℕ, _+_}
 use native.Mathlib.Omega.{arith}
 use borrow.Author.Tests.{eq-eqb, ne-eqb}
 use Rattle.homing.specs.declared.Phase.the-variants.{Idle, Running, Homed, Failed}
-use Rattle.homing.specs.declared.View.{View}
-use Rattle.homing.specs.declared.legs.Leg.{Leg}
-use Rattle.homing.specs.declared.legs.Found.the-variants as found
-use Rattle.homing.specs.Events.{eventCounts, limitCounts}
-use Rattle.homing.specs.Routes.{Row, rowOf}
-use Rattle.homing.specs.Places.{legAt, entered, limitAt, runningOf, startIn, startOf}
-use Rattle.homing.specs.Bytes.{between}
-use Rattle.homing.proofs.Rows.{known, isRow, turn-rule, known-rule, unknown}
+use Rattle.legs.specs.declared.events.View.{View}
+use Rattle.legs.specs.declared.Leg.{Leg}
+use Rattle.legs.specs.declared.Found.the-variants as found
+use Rattle.legs.specs.Events.{eventCounts, limitCounts}
+use Rattle.legs.specs.Routes.{Row, rowOf}
+use Rattle.legs.specs.Places.{legAt}
+use Rattle.homing.specs.Places.{entered, limitAt, runningOf, startIn, startOf}
+use Rattle.legs.specs.Bytes.{between}
+use Rattle.legs.proofs.Rows.{known, isRow, turn-rule, known-rule, unknown}
 
 module _ (m p : ℕ) where
   -- a limit turns, comes in a later leg, or in a method with no route b

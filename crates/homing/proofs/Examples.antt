@@ -7,12 +7,13 @@ use Prim.Native.Nat.{ℕ}
 use lib.IntN.{pos, _-ℤ_}
 use Rattle.counts.specs.Wrap.{modulo, signed, wrapped}
 use Rattle.counts.specs.Movement.{movementOf}
-use Rattle.homing.specs.declared.Switches.{Switches}
-use Rattle.homing.specs.declared.View.{View}
-use Rattle.homing.specs.Events.{eventCounts, limitCounts}
-use Rattle.homing.specs.Routes.{rowOf, planOf}
+use Rattle.legs.specs.declared.events.Switches.{Switches}
+use Rattle.legs.specs.declared.events.View.{View}
+use Rattle.legs.specs.Events.{eventCounts, limitCounts}
+use Rattle.legs.specs.Routes.{rowOf, planOf}
 use Rattle.homing.specs.Complete.{CompletesPlan}
-use Rattle.homing.specs.Places.{legAt, entered, limitAt, runningOf, startOf, stepAll, homedIn}
+use Rattle.legs.specs.Places.{legAt}
+use Rattle.homing.specs.Places.{entered, limitAt, runningOf, startOf, stepAll, homedIn}
 use Rattle.homing.proofs.Simulation.{homing-iff}
 
 abbrev off : Switches

@@ -1,7 +1,4 @@
 pub mod Completion
-pub mod Computed
-pub mod Rows
-pub mod Table
 pub mod Simulation
 pub mod Arms
 pub mod LimitLeg

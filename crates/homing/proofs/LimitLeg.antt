@@ -4,11 +4,11 @@
 use mathlib.Core.Path.{_≡_, refl}
 use mathlib.Core.List.{List, [], _∷_}
 use mathlib.Core.Option.{Option, none, some}
-use Rattle.homing.specs.declared.View.{View}
-use Rattle.homing.specs.declared.legs.Leg.{Leg}
-use Rattle.homing.specs.Events.{eventCounts, limitCounts}
-use Rattle.homing.specs.Routes.{Row, rowOf, toLimit}
-use Rattle.homing.proofs.Computed.{listed}
+use Rattle.legs.specs.declared.events.View.{View}
+use Rattle.legs.specs.declared.Leg.{Leg}
+use Rattle.legs.specs.Events.{eventCounts, limitCounts}
+use Rattle.legs.specs.Routes.{Row, rowOf, toLimit}
+use Rattle.legs.proofs.Computed.{listed}
 
 abbrev firstOf : List Leg → Option Leg
 firstOf [] = none

@@ -12,16 +12,17 @@ use lib.ListN.{length, getD}
 use borrow.Author.Tests.{ne-eqb}
 use Rattle.homing.specs.declared.Phase.{Phase}
 use Rattle.homing.specs.declared.Phase.the-variants.{Idle, Running, Homed, Failed}
-use Rattle.homing.specs.declared.View.{View}
-use Rattle.homing.specs.declared.legs.Leg.{Leg}
-use Rattle.homing.specs.declared.legs.Found.the-variants as found
-use Rattle.homing.specs.Events.{eventCounts, limitCounts}
-use Rattle.homing.specs.Routes.{Row, rowOf, Plan, later, planFrom, planOf}
+use Rattle.legs.specs.declared.events.View.{View}
+use Rattle.legs.specs.declared.Leg.{Leg}
+use Rattle.legs.specs.declared.Found.the-variants as found
+use Rattle.legs.specs.Events.{eventCounts, limitCounts}
+use Rattle.legs.specs.Routes.{Row, rowOf, Plan, later, planFrom, planOf}
 use Rattle.homing.specs.Complete.{CompletesPlan}
 use Rattle.homing.specs.Progress.{Progress, idle, failed, homed, running, begin, onLimit, advance, advanceAll, started, isHomed}
-use Rattle.homing.specs.Places.{slot, rest, placesOf, legAt, entered, hasTurn, turns, limitAt, runningOf, startIn, startOf, stepOf, stepAll, homedIn}
+use Rattle.legs.specs.Places.{slot, rest, placesOf, legAt, hasTurn, turns}
+use Rattle.homing.specs.Places.{entered, limitAt, runningOf, startIn, startOf, stepOf, stepAll, homedIn}
 use Rattle.homing.proofs.Completion.{homed-iff, idle-stays}
-use Rattle.homing.proofs.Rows.{row-roomy}
+use Rattle.legs.proofs.Rows.{row-roomy}
 
 -- method m's legs from a place on, up to an empty place, are these
 abbrev pub From : ℕ → ℕ → List Leg → Type 0

@@ -5,10 +5,10 @@ use mathlib.Core.Logic.{_⊎_}
 use mathlib.Core.Bool.{false, So}
 use mathlib.Core.List.{List, [], _∷_, _++_}
 use mathlib.Core.Option.{Option, none, some}
-use Rattle.homing.specs.declared.View.{View}
-use Rattle.homing.specs.declared.legs.Leg.{Leg}
-use Rattle.homing.specs.Events.{eventCounts, limitCounts}
-use Rattle.homing.specs.Routes.{Plan}
+use Rattle.legs.specs.declared.events.View.{View}
+use Rattle.legs.specs.declared.Leg.{Leg}
+use Rattle.legs.specs.Events.{eventCounts, limitCounts}
+use Rattle.legs.specs.Routes.{Plan}
 
 abbrev pub All : (View → Type 0) → List View → Type 0
 All P [] = Unit

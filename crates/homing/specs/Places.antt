@@ -1,4 +1,4 @@
--- Homing by place: a method's routes stand in one row of places, and what homing holds is a number.
+-- Homing by place: what homing holds is a number, the place of the running leg in its method's row.
 -- Assumes nothing.
 use Prim.Native.Nat.{ℕ, _+_}
 use mathlib.Core.Bool.{Bool, true, false, cond, _&&_}
@@ -8,42 +8,13 @@ use lib.Dec.{eqb}
 use lib.ListN.{getD}
 use Rattle.homing.specs.declared.Phase.{Phase}
 use Rattle.homing.specs.declared.Phase.the-variants.{Idle, Running, Homed, Failed}
-use Rattle.homing.specs.declared.View.{View}
-use Rattle.homing.specs.declared.legs.Leg.{Leg}
-use Rattle.homing.specs.declared.legs.Found.{Found}
-use Rattle.homing.specs.declared.legs.Found.the-variants as found
-use Rattle.homing.specs.Events.{eventCounts, limitCounts}
-use Rattle.homing.specs.Routes.{Row, rowOf}
-
--- the leg at a place of a route, or nothing past its end
-abbrev pub slot : List Leg → ℕ → Found
-slot ls i = getD (map found.Leg ls) i found.Nothing
-
-abbrev pub rest : List Leg → List Leg
-rest [] = []
-rest (l ∷ ls) = ls
-
-abbrev four : List Leg → List Found → List Found
-four ls more = slot ls 0 ∷ slot ls 1 ∷ slot ls 2 ∷ slot ls 3 ∷ more
-
--- no route has more than three legs, so each ends in an empty place: 0 to 3 are route a, 4 to 7 route b from its second leg on, 8 to 11 route c
-abbrev pub placesOf : Row → List Found
-placesOf r = four (r .a) (four (rest (r .b)) (four (r .c) []))
-
--- the place that a limit turns to, and the first of route c, for a start on HOM
-abbrev pub turnPlace : ℕ
-turnPlace = 4
-
-abbrev pub homePlace : ℕ
-homePlace = 8
-
-abbrev pub legIn : Option Row → ℕ → Found
-legIn none place = found.Nothing
-legIn (some r) place = getD (placesOf r) place found.Nothing
-
--- a method's leg at a place
-unfoldable pub legAt : ℕ → ℕ → Found
-legAt method place = legIn (rowOf method) place
+use Rattle.legs.specs.declared.events.View.{View}
+use Rattle.legs.specs.declared.Leg.{Leg}
+use Rattle.legs.specs.declared.Found.{Found}
+use Rattle.legs.specs.declared.Found.the-variants as found
+use Rattle.legs.specs.Events.{eventCounts, limitCounts}
+use Rattle.legs.specs.Routes.{Row, rowOf}
+use Rattle.legs.specs.Places.{turnPlace, homePlace, legAt, hasTurn}
 
 abbrev pub enteredAt : ℕ → Found → Phase
 enteredAt place (found.Leg l) = Running place
@@ -52,15 +23,6 @@ enteredAt place found.Nothing = Homed
 -- at a place, or homed where the route has no leg there
 unfoldable pub entered : ℕ → ℕ → Phase
 entered method place = enteredAt place (legAt method place)
-
--- whether a limit turns the first leg of route a: there is a route b
-abbrev pub turns : List Leg → Bool
-turns [] = false
-turns (l ∷ ls) = true
-
-abbrev pub hasTurn : Option Row → Bool
-hasTurn none = false
-hasTurn (some r) = turns (r .b)
 
 -- "moves a's first leg (methods 23 to 30) to b's second; in any other leg, those of 33 and 34 included, it sets homing error"
 unfoldable pub limitAt : ℕ → ℕ → Phase

@@ -4,10 +4,10 @@
 use mathlib.Core.Bool.{Bool, true, false, cond}
 use mathlib.Core.List.{List, [], _∷_}
 use mathlib.Core.Option.{Option, none, some}
-use Rattle.homing.specs.declared.View.{View}
-use Rattle.homing.specs.declared.legs.Leg.{Leg}
-use Rattle.homing.specs.Events.{eventCounts, limitCounts}
-use Rattle.homing.specs.Routes.{Plan}
+use Rattle.legs.specs.declared.events.View.{View}
+use Rattle.legs.specs.declared.Leg.{Leg}
+use Rattle.legs.specs.Events.{eventCounts, limitCounts}
+use Rattle.legs.specs.Routes.{Plan}
 
 -- running: the leg, those after it, and in a's first leg those of b from its second on
 pub data Progress : Type 0 where

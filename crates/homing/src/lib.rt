@@ -1,29 +1,9 @@
-// Homing (01: "Homing routes"): the legs of each method's routes, when a leg's event counts, and where homing stands after a tick.
-pub mod events;
-pub mod legs;
-
-use counts::Movement;
+// Homing (01: "Homing routes"): where it stands after a tick.
 use legs::Found;
+use legs::events;
+use legs::events::View;
 ghost use mathlib.Core.Path.{_≡_};
 ghost use Rattle.homing.specs.Places.{entered, limitAt, runningOf, startOf, stepOf};
-
-// The four switches (01: POT, NOT, HOM, Z).
-pub struct Switches {
-    pub positive: bool,
-    pub negative: bool,
-    pub home: bool,
-    pub index: bool,
-}
-
-// What homing sees of one tick after the start. kept: control bit 4 is set, homing is matched and the new state is Operation enabled;
-// before and now: the remembered switches and this tick's.
-pub struct View {
-    pub kept: bool,
-    pub halted: bool,
-    pub movement: Movement,
-    pub before: Switches,
-    pub now: Switches,
-}
 
 // Where homing stands. Running holds the running leg's place in its method's row.
 pub enum Phase {

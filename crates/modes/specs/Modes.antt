@@ -29,8 +29,8 @@ modePlace Torque = 4
 abbrev pub isMode : Mode → Mode → Bool
 isMode m n = eqb (modePlace m) (modePlace n)
 
--- shown: the mode shown before the tick. "A command's mode becomes the shown mode if the state before was not Operation enabled, or standstill is set. Otherwise the shown mode
--- stays."
+-- shown: the mode shown before the tick. "A command's mode becomes the shown mode if the state before was not Operation enabled, or
+-- standstill is set. Otherwise the shown mode stays."
 abbrev pub shownOf : Mode → Mode → State → Bool → Mode
 shownOf wanted shown before still = cond (not (isMode wanted None) && (not (is before OperationEnabled) || still)) wanted shown
 

@@ -6,10 +6,10 @@ use lib.IntN.{ℤ, pos, negℤ}
 use Rattle.settings.specs.declared.Settings.{Settings}
 use Rattle.homing.specs.declared.Phase.{Phase}
 use Rattle.homing.specs.declared.Phase.the-variants.{Idle, Running, Homed, Failed}
-use Rattle.homing.specs.declared.legs.Leg.{Leg}
-use Rattle.homing.specs.declared.legs.Found.{Found}
-use Rattle.homing.specs.declared.legs.Found.the-variants as found
-use Rattle.homing.specs.Places.{legAt}
+use Rattle.legs.specs.declared.Leg.{Leg}
+use Rattle.legs.specs.declared.Found.{Found}
+use Rattle.legs.specs.declared.Found.the-variants as found
+use Rattle.legs.specs.Places.{legAt}
 
 -- a magnitude with the sign of a direction. The least of it and 2 ^ 28 − 1 is a guard: in range it changes nothing (`proofs/Guard.antt`)
 unfoldable pub signedOf : Bool → ℕ → ℤ

@@ -1,12 +1,11 @@
 // The speed that a tick commands: that of the running homing leg.
 use homing::Phase;
-use homing::legs;
-use homing::legs::Found;
-use homing::legs::Leg;
+use legs::Found;
+use legs::Leg;
 use settings::Settings;
 ghost use mathlib.Core.Path.{_≡_};
 ghost use Prim.Native.Nat.{_-_, _^_, min};
-ghost use Rattle.homing.specs.Places.{legAt};
+ghost use Rattle.legs.specs.Places.{legAt};
 ghost use Rattle.speed.specs.Speed.{signedOf, legSpeed, foundSpeed, speedOf};
 
 // A speed is at most 2^28 - 1.

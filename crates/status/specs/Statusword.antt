@@ -4,7 +4,7 @@ use Prim.Native.Nat.{ℕ, _+_, _^_}
 use mathlib.Core.Bool.{Bool, true, false, not, _&&_, _||_}
 use Rattle.drive.specs.declared.State.{State}
 use Rattle.drive.specs.Status.{statusOf}
-use Rattle.homing.specs.declared.View.{View}
+use Rattle.legs.specs.declared.events.View.{View}
 use Rattle.modes.specs.declared.Mode.{Mode}
 use Rattle.modes.specs.declared.Mode.the-variants.{Homing, Position}
 use Rattle.modes.specs.Modes.{isMode}

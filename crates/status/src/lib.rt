@@ -1,6 +1,6 @@
 // The statusword: the drive's bits, and those above bit 9 and bit 8 that homing, limits and the followed target set.
 use drive::State;
-use homing::View;
+use legs::events::View;
 use modes::Mode;
 ghost use mathlib.Core.Path.{_≡_};
 ghost use Prim.Native.Nat.{_≤_};

@@ -2,7 +2,7 @@
 -- Assumes nothing.
 use mathlib.Core.Path.{sym, _∙_}
 use native.Mathlib.Omega.{arith}
-use Rattle.homing.proofs.Rows.{within, under, over}
+use Rattle.legs.proofs.Rows.{within, under, over}
 use Rattle.homing.proofs.Arms.{limit-turns, limit-later, limit-alone}
 use borrow.Author.Needs.{needs}
 use Rattle.homing.proofs.at_limit.Statement.{statement}

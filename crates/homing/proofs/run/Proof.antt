@@ -2,9 +2,9 @@
 -- Assumes nothing.
 use mathlib.Core.Path.{_≡_, sym, _∙_}
 use native.Mathlib.Omega.{arith}
-use Rattle.homing.specs.declared.legs.Found.the-variants as found
-use Rattle.homing.specs.Places.{legAt}
-use Rattle.homing.proofs.Table.{placed}
+use Rattle.legs.specs.declared.Found.the-variants as found
+use Rattle.legs.specs.Places.{legAt}
+use Rattle.legs.proofs.Table.{placed}
 use Rattle.homing.proofs.Arms.{run-end, run-idle, run-event, run-limit, run-stays}
 use borrow.Author.Needs.{needs}
 use Rattle.homing.proofs.run.Statement.{statement}

@@ -4,7 +4,7 @@ use mathlib.Core.Path.{_≡_, sym, _∙_}
 use mathlib.Core.Bool.{true}
 use mathlib.Core.Logic.{⊎-elim}
 use native.Mathlib.Omega.{arith}
-use Rattle.homing.proofs.Rows.{known, known-low, known-high, below-all, between-both, above-all}
+use Rattle.legs.proofs.Rows.{known, known-low, known-high, below-all, between-both, above-all}
 use Rattle.homing.proofs.Arms.{start-known, start-unknown}
 use borrow.Author.Needs.{needs}
 use Rattle.homing.proofs.start.Statement.{statement}

@@ -1,0 +1,78 @@
+-- The rule of the code's table: each leg that the code picks out of its bytes is the one that the routes have there. One computed test over
+-- the whole table, and the law of `Computed`.
+-- Assumes nothing.
+use mathlib.Core.Path.{_≡_, refl, _∙_}
+use mathlib.Core.Bool.{Bool, true, false}
+use mathlib.Core.List.{[]}
+use mathlib.Core.Option.{Option, none, some}
+use Prim.Native.Nat.{ℕ, _+_, _-_, _*_, _/_, _%_, _≤_, _<_}
+use native.Mathlib.Omega.{arith}
+use lib.Dec.{ltb}
+use lib.ListN.{getD, List·getD-eq-default}
+use borrow.Author.Tests.{ltb-true, ltb-false}
+use Rattle.legs.specs.declared.Leg.{Leg}
+use Rattle.legs.specs.declared.Found.{Found}
+use Rattle.legs.specs.declared.Found.the-variants as found
+use Rattle.legs.specs.Routes.{Row, rowOf}
+use Rattle.legs.specs.Places.{placesOf, legIn, legAt}
+use Rattle.legs.specs.Bytes.{bytes, switchIn, edgeIn, decoded, between, rowNumber}
+use Rattle.legs.proofs.Computed.{listed, agree}
+use Rattle.legs.proofs.Rows.{under, over, known, below-all, above-all, unknown}
+
+-- past a row's places
+pub past : (m p : ℕ) → 12 ≤ p → legAt m p ≡ found.Nothing
+unfolding legAt
+past m p h = go (rowOf m)
+  where
+    go : (o : Option Row) → legIn o p ≡ found.Nothing
+    go none = refl
+    go (some r) = List·getD-eq-default (placesOf r) found.Nothing h
+
+-- a leg stands at a place below 12
+pub placed : (m p : ℕ) (l : Leg) → legAt m p ≡ found.Leg l → p < 12
+placed m p l e = go (ltb p 12) refl
+  where
+    go : (b : Bool) → ltb p 12 ≡ b → p < 12
+    go true t = ltb-true p 12 t
+    go false t = let q = past m p (ltb-false p 12 t) in let z : _≡_ {A = ℕ} 0 1 = cc in absurd (omega arith)
+
+pub no-leg : (m p : ℕ) → known m ≡ false → legAt m p ≡ found.Nothing
+unfolding legAt
+no-leg m p k = rw (unknown m k)
+
+-- the leg that the code picks out of its table
+abbrev pub picked : ℕ → ℕ → Found
+picked m p = decoded (getD (getD bytes (rowNumber m) []) p 0) (between 27 30 m)
+
+-- it is the method's, at each of twelve places for each of the numbers 23 to 35
+entries : listed (λ n. picked (23 + n / 12) (n % 12)) 0 156 ≡ listed (λ n. legAt (23 + n / 12) (n % 12)) 0 156
+unfolding bytes rowOf legAt decoded switchIn edgeIn rowNumber
+entries = refl
+
+inside : (m p : ℕ) → 23 ≤ m → m < 36 → p < 12 → picked m p ≡ legAt m p
+inside m p h k l =
+    let n = (m - 23) * 12 + p in
+    let e = agree (λ j. picked (23 + j / 12) (j % 12)) (λ j. legAt (23 + j / 12) (j % 12)) 156 entries n (omega arith) in
+    let q : 23 + n / 12 ≡ m = omega arith in
+    let r : n % 12 ≡ p = omega arith in
+    rw (q, r) at e
+
+-- 31 stands for every number that is no method: they share a row
+outside : (m p : ℕ) → known m ≡ false → rowNumber m ≡ 6 → between 27 30 m ≡ false → p < 12 → picked m p ≡ legAt m p
+unfolding rowNumber
+outside m p u q t l = rw (q, t, no-leg m p u) (inside 31 p (omega arith) (omega arith) l ∙ no-leg 31 p refl)
+
+pub leg-rule : (m p : ℕ) → p < 12 → picked m p ≡ legAt m p
+unfolding rowNumber
+leg-rule m p l = go (ltb m 23) (ltb m 36) refl refl
+  where
+    go : (a b : Bool) → ltb m 23 ≡ a → ltb m 36 ≡ b → picked m p ≡ legAt m p
+    go true b e f =
+        let h = ltb-true m 23 e in
+        outside m p (below-all m h) (rw (under 23 26 m h, under 27 30 m (omega arith), under 33 34 m (omega arith))) (under 27 30 m (omega arith)) l
+    go false true e f = inside m p (ltb-false m 23 e) (ltb-true m 36 f) l
+    go false false e f =
+        let h = ltb-false m 36 f in
+        outside m p (above-all m (omega arith))
+        (rw (over 23 26 m (omega arith) (omega arith), over 27 30 m (omega arith) (omega arith), over 33 34 m (omega arith) (omega arith)))
+        (over 27 30 m (omega arith) (omega arith)) l

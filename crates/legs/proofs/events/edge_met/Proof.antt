@@ -1,0 +1,20 @@
+-- `homing::events::edge_met` meets its contract: each arm is a clause of the definition.
+-- Assumes nothing.
+use borrow.Author.Needs.{needs}
+use Rattle.legs.proofs.events.edge_met.Statement.{statement}
+use Rattle.legs.proofs.events.edge_met.Tie as tie
+
+enum-told : tie.Need-enum-told
+enum-told c = search needs
+
+enum-told-2 : tie.Need-enum-told-2
+enum-told-2 c = search needs
+
+returns : tie.Need-returns
+returns c = rw (c .enum-told .given .1)
+
+returns-2 : tie.Need-returns-2
+returns-2 c = rw (c .enum-told2 .given .1)
+
+pub edge-met-spec : {M : Type 1} → statement M
+edge-met-spec = tie.close (tie.spec enum-told enum-told-2 returns returns-2)

@@ -1,0 +1,4 @@
+pub mod Events
+pub mod Routes
+pub mod Places
+pub mod Bytes
