@@ -5,9 +5,9 @@ use mathlib.Core.Path.{_≡_, refl, sym, ap, ap₂, _∙_}
 use mathlib.Core.Bool.{Bool}
 use lib.IntN.{ℤ}
 use Rattle.settings.specs.declared.Settings.{Settings}
-use Rattle.drive.specs.declared.State.{State}
+use Rattle.states.specs.declared.State.{State}
 use Rattle.drive.specs.Transitions.{nextOf}
-use Rattle.drive.specs.Alarm.{latchedOf}
+use Rattle.states.specs.Alarm.{latchedOf}
 use Rattle.modes.specs.declared.Mode.{Mode}
 use Rattle.modes.specs.Modes.{shownOf, matchedOf}
 use Rattle.commands.specs.declared.Demand.{Demand}

@@ -9,7 +9,7 @@ use Rattle.reader.specs.declared.Pending.{Pending}
 use Rattle.reader.specs.declared.Outcome.{Outcome}
 use Rattle.reader.specs.declared.Outcome.the-variants.{Refused, Stored, Complete}
 use Rattle.reader.specs.Read.{emptyPending, readOf}
-use Rattle.drive.specs.Transitions.{liveOf}
+use Rattle.states.specs.States.{liveOf}
 use Rattle.roundtrip.specs.Stream.{pendingAfter}
 use Rattle.roundtrip.proofs.Completed.{from-append}
 use Rattle.axis.specs.declared.Active.{Active}

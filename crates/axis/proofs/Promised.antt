@@ -7,7 +7,7 @@ use mathlib.Core.Logic.{_↔_}
 use lib.IntN.{pos}
 use Rattle.counts.specs.Bit.{bitOf}
 use Rattle.settings.specs.declared.Settings.{Settings}
-use Rattle.drive.specs.Transitions.{liveOf}
+use Rattle.states.specs.States.{liveOf}
 use Rattle.modes.specs.declared.Mode.{Mode}
 use Rattle.modes.specs.declared.Mode.the-variants.{None, Hybrid, Homing, Position, Torque}
 use Rattle.modes.specs.Modes.{isMode}

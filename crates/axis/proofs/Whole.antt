@@ -24,7 +24,7 @@ use Rattle.reader.specs.declared.Outcome.the-variants.{Refused, Stored, Complet
 use Rattle.reader.specs.Read.{emptyPending, readOf, outcomeNumber}
 use Rattle.reader.proofs.Numbers.{never-7}
 use Rattle.reader.proofs.Accepted.{AcceptedBy, ReadBy, refuses, accepted, begins, keeps, closes, read-by, accepted-by}
-use Rattle.drive.specs.Transitions.{liveOf}
+use Rattle.states.specs.States.{liveOf}
 use Rattle.roundtrip.specs.ReadInto.{ReadInto, last, more}
 use Rattle.roundtrip.specs.Stream.{pendingFrom}
 use Rattle.roundtrip.proofs.There.{there}

@@ -5,7 +5,7 @@ use lib.IntN.{pos}
 use Rattle.settings.specs.declared.Settings.{Settings}
 use Rattle.settings.specs.declared.Refusal.{Refusal}
 use Rattle.settings.specs.Refusal.{numberOf}
-use Rattle.drive.specs.Transitions.{liveOf}
+use Rattle.states.specs.States.{liveOf}
 use Rattle.modes.specs.Modes.{modeNumber}
 use Rattle.commands.specs.Commands.{wholeDemand}
 use Rattle.homing.specs.declared.Phase.{Phase}

@@ -8,9 +8,10 @@ use Rattle.counts.specs.Bit.{bitOf}
 use Rattle.counts.specs.Wrap.{wrapped}
 use Rattle.counts.specs.Movement.{movementOf}
 use Rattle.settings.specs.declared.Settings.{Settings}
-use Rattle.drive.specs.declared.State.{State}
-use Rattle.drive.specs.declared.State.the-variants.{OperationEnabled}
-use Rattle.drive.specs.Transitions.{is, rises, nextOf}
+use Rattle.states.specs.declared.State.{State}
+use Rattle.states.specs.declared.State.the-variants.{OperationEnabled}
+use Rattle.states.specs.States.{is}
+use Rattle.drive.specs.Transitions.{rises, nextOf}
 use Rattle.modes.specs.declared.Mode.{Mode}
 use Rattle.modes.specs.declared.Mode.the-variants.{Homing}
 use Rattle.modes.specs.Modes.{isMode, shownOf, matchedOf}

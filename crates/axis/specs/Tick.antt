@@ -6,9 +6,9 @@ use lib.IntN.{ℤ, pos}
 use Rattle.settings.specs.declared.Settings.{Settings}
 use Rattle.settings.specs.declared.Refusal.the-variants.{NoSettings}
 use Rattle.reader.specs.Read.{emptyPending}
-use Rattle.drive.specs.declared.State.{State}
-use Rattle.drive.specs.declared.State.the-variants.{NotReady}
-use Rattle.drive.specs.Alarm.{latchedOf}
+use Rattle.states.specs.declared.State.{State}
+use Rattle.states.specs.declared.State.the-variants.{NotReady}
+use Rattle.states.specs.Alarm.{latchedOf}
 use Rattle.modes.specs.declared.Mode.{Mode}
 use Rattle.modes.specs.declared.Mode.the-variants.{None}
 use Rattle.commands.specs.declared.Command.{Command}

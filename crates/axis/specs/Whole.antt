@@ -15,7 +15,7 @@ use Rattle.words.specs.Encode.{wordsOf}
 use Rattle.reader.specs.declared.Pending.{Pending}
 use Rattle.reader.specs.declared.Outcome.the-variants.{Complete}
 use Rattle.reader.specs.Read.{emptyPending, readOf}
-use Rattle.drive.specs.Transitions.{liveOf}
+use Rattle.states.specs.States.{liveOf}
 use Rattle.axis.specs.declared.Active.the-variants.{Nothing}
 use Rattle.axis.specs.declared.Axis.{Axis}
 use Rattle.axis.specs.declared.Tick.{Tick}

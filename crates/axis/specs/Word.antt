@@ -10,7 +10,7 @@ use Rattle.reader.specs.declared.Pending.{Pending}
 use Rattle.reader.specs.declared.Outcome.{Outcome}
 use Rattle.reader.specs.declared.Outcome.the-variants.{Refused, Stored, Complete}
 use Rattle.reader.specs.Read.{readOf}
-use Rattle.drive.specs.Transitions.{liveOf}
+use Rattle.states.specs.States.{liveOf}
 use Rattle.homing.specs.declared.Phase.the-variants.{Idle}
 use Rattle.axis.specs.declared.Active.the-variants.{Set}
 use Rattle.axis.specs.declared.Axis.{Axis}

@@ -82,7 +82,7 @@ pub fn given(s: Settings, t: Tick, m: Moment) -> Answer
     let phase = m.phase;
     let followed = m.followed;
     let set = t.set;
-    let on = drive::is_live(state) & m.matched;
+    let on = states::is_live(state) & m.matched;
     let flags = flags(s, m);
     Answer {
         number: 0,

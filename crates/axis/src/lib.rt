@@ -3,7 +3,6 @@ mod answers;
 mod moments;
 
 use commands::Command;
-use drive::State;
 use homing::Phase;
 use legs::events::Switches;
 use modes::Mode;
@@ -13,6 +12,7 @@ use reader::Pending;
 use settings::Refusal;
 use settings::Settings;
 use settings::Verdict;
+use states::State;
 use torque::LimitSet;
 ghost use mathlib.Core.Path.{_≡_};
 ghost use Rattle.homing.specs.Places.{homedIn};
@@ -146,7 +146,7 @@ impl Axis {
             },
             Outcome::Complete(s) => {
                 let state = self.state;
-                if drive::is_live(state) {
+                if states::is_live(state) {
                     Worded {
                         axis: self,
                         verdict: Verdict::Refused(Refusal::DriveActive),

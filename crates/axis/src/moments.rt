@@ -3,12 +3,12 @@ use crate::Axis;
 use crate::Tick;
 use commands::Command;
 use commands::Demand;
-use drive::State;
 use homing::Phase;
 use legs::events::View;
 use modes::Mode;
 use position::Followed;
 use settings::Settings;
+use states::State;
 ghost use mathlib.Core.Path.{_≡_};
 ghost use mathlib.Core.Bool.{cond, not, _&&_, _||_};
 ghost use Rattle.homing.specs.Places.{startOf, stepOf, homedIn};
@@ -47,7 +47,7 @@ fn homing_on(t: Tick, mode: Mode, state: State) -> bool
     let wanted = commands::mode(command);
     modes::is_mode(wanted, Mode::Homing)
         & modes::is_matched(wanted, mode)
-        & drive::in_state(state, State::OperationEnabled)
+        & states::in_state(state, State::OperationEnabled)
 }
 
 // The start tick: control bit 4 rises.
@@ -129,7 +129,7 @@ pub fn reached(axis: Axis, s: Settings, t: Tick) -> Moment
         matched: matched,
         state: state,
         demand: demand,
-        alarm: drive::latched(axis.alarm, was, state, alarm),
+        alarm: states::latched(axis.alarm, was, state, alarm),
         view: view,
         phase: phase,
         home: home_after(axis.home, starting, homed(before), is_homed, t.position),

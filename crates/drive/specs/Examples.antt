@@ -5,12 +5,12 @@ use mathlib.Core.Path.{_≡_, refl}
 use mathlib.Core.Bool.{Bool, true, false, _&&_}
 use mathlib.Core.List.{List, [], _∷_}
 use lib.Dec.{eqb}
-use Rattle.drive.specs.declared.State.{State}
-use Rattle.drive.specs.declared.State.the-variants.{NotReady, SwitchOnDisabled, Ready, SwitchedOn, OperationEnabled, QuickStopActive, FaultReaction, Fault}
+use Rattle.states.specs.declared.State.{State}
+use Rattle.states.specs.declared.State.the-variants.{NotReady, SwitchOnDisabled, Ready, SwitchedOn, OperationEnabled, QuickStopActive, FaultReaction, Fault}
 use Rattle.drive.specs.Control.{controlCommandOf}
 use Rattle.drive.specs.Transitions.{nextOf}
-use Rattle.drive.specs.Alarm.{leastSet, alarmNumberOf}
-use Rattle.drive.specs.Status.{statusOf}
+use Rattle.states.specs.Alarm.{leastSet, alarmNumberOf}
+use Rattle.states.specs.Status.{statusOf}
 
 -- the status after a tick from a state, moving, with option 2, no alarm, and control word 0 before
 abbrev after : State → ℕ → ℕ

@@ -5,26 +5,14 @@ use mathlib.Core.Bool.{Bool, true, false, cond, not, _&&_, _||_}
 use mathlib.Core.List.{List, [], _∷_}
 use lib.Dec.{eqb}
 use Rattle.counts.specs.Bit.{bitOf}
-use Rattle.drive.specs.declared.State.{State}
-use Rattle.drive.specs.declared.State.the-variants.{NotReady, SwitchOnDisabled, Ready, SwitchedOn, OperationEnabled, QuickStopActive, FaultReaction, Fault}
+use Rattle.states.specs.declared.State.{State}
+use Rattle.states.specs.declared.State.the-variants.{NotReady, SwitchOnDisabled, Ready, SwitchedOn, OperationEnabled, QuickStopActive, FaultReaction, Fault}
 use Rattle.drive.specs.declared.ControlCommand.{ControlCommand}
 use Rattle.drive.specs.declared.ControlCommand.the-variants.{Nothing, DisableVoltage, QuickStop, Shutdown, SwitchOn, EnableOperation}
+use Rattle.states.specs.States.{is}
 use Rattle.drive.specs.Control.{controlCommandOf}
 
--- states and commands are told apart by number
-abbrev pub stateNumber : State → ℕ
-stateNumber NotReady = 0
-stateNumber SwitchOnDisabled = 1
-stateNumber Ready = 2
-stateNumber SwitchedOn = 3
-stateNumber OperationEnabled = 4
-stateNumber QuickStopActive = 5
-stateNumber FaultReaction = 6
-stateNumber Fault = 7
-
-abbrev pub is : State → State → Bool
-is s t = eqb (stateNumber s) (stateNumber t)
-
+-- commands are told apart by number
 abbrev pub commandNumber : ControlCommand → ℕ
 commandNumber Nothing = 0
 commandNumber DisableVoltage = 1
@@ -108,7 +96,3 @@ settled QuickStopActive alarm reset quiet = cond alarm FaultReaction quiet
 unfoldable pub nextOf : State → ℕ → ℕ → Bool → ℕ → ℕ → State
 nextOf s control before still option alarm =
     settled s (not (eqb alarm 0)) (rises before control 7) (quietOf s (controlCommandOf control) still option)
-
--- Operation enabled or Quick stop active
-abbrev pub liveOf : State → Bool
-liveOf s = is s OperationEnabled || is s QuickStopActive

@@ -1,5 +1,5 @@
 // Modes of operation: what a command asks for, which mode the drive shows, and whether the command is matched.
-use drive::State;
+use states::State;
 ghost use mathlib.Core.Path.{_≡_};
 ghost use Rattle.modes.specs.Modes.{modeNumber, modePlace, isMode, shownOf, matchedOf};
 
@@ -48,7 +48,7 @@ pub fn shown(wanted: Mode, shown: Mode, before: State, still: bool) -> Mode
     ensures { λ r. ⌜ r ≡ shownOf wanted shown before still ⌝ }
 {
     let asks = !is_mode(wanted, Mode::None);
-    let free = !drive::in_state(before, State::OperationEnabled) | still;
+    let free = !states::in_state(before, State::OperationEnabled) | still;
     if asks & free { wanted } else { shown }
 }
 

@@ -6,9 +6,9 @@ use lib.IntN.{ℤ, _+ℤ_}
 use lib.Signed.{ltZ}
 use Rattle.counts.specs.Wrap.{wrapped}
 use Rattle.counts.specs.Clamp.{clamped}
-use Rattle.drive.specs.declared.State.{State}
-use Rattle.drive.specs.declared.State.the-variants.{OperationEnabled}
-use Rattle.drive.specs.Transitions.{is}
+use Rattle.states.specs.declared.State.{State}
+use Rattle.states.specs.declared.State.the-variants.{OperationEnabled}
+use Rattle.states.specs.States.{is}
 use Rattle.settings.specs.declared.Settings.{Settings}
 use Rattle.settings.specs.Gear.{gearedOf}
 use Rattle.position.specs.declared.Followed.{Followed}

@@ -1,7 +1,7 @@
 // The position that a tick commands: the followed target as a count, or the actual position.
-use drive::State;
 use settings::Settings;
 use settings::gear;
+use states::State;
 ghost use mathlib.Core.Path.{_≡_};
 ghost use Rattle.position.specs.Position.{followedOf, limitedOf, placeOf, positionOf, outsideOf, clampedOf};
 
@@ -15,7 +15,7 @@ pub enum Followed {
 pub fn follow(matched: bool, state: State, homed: bool, target: i32) -> Followed
     ensures { λ r. ⌜ r ≡ followedOf matched state homed target ⌝ }
 {
-    let enabled = drive::in_state(state, State::OperationEnabled);
+    let enabled = states::in_state(state, State::OperationEnabled);
     if matched & enabled & homed {
         Followed::Target(target)
     } else {

@@ -7,9 +7,9 @@ use native.Mathlib.Omega.{arith}
 use borrow.Author.Tests.{eq-eqb, ne-eqb}
 use lib.Dec.{lit<}
 use Rattle.counts.specs.Bit.{bitOf}
-use Rattle.drive.specs.declared.State.{State}
-use Rattle.drive.specs.declared.State.the-variants.{NotReady, SwitchOnDisabled, Ready, SwitchedOn, OperationEnabled, QuickStopActive, FaultReaction, Fault}
-use Rattle.drive.specs.Status.{statusOf}
+use Rattle.states.specs.declared.State.{State}
+use Rattle.states.specs.declared.State.the-variants.{NotReady, SwitchOnDisabled, Ready, SwitchedOn, OperationEnabled, QuickStopActive, FaultReaction, Fault}
+use Rattle.states.specs.Status.{statusOf}
 use Rattle.modes.specs.declared.Mode.{Mode}
 use Rattle.modes.specs.declared.Mode.the-variants.{Homing}
 use Rattle.status.specs.declared.Flags.{Flags}

@@ -2,8 +2,8 @@
 -- Assumes nothing.
 use Prim.Native.Nat.{ℕ, _+_, _^_}
 use mathlib.Core.Bool.{Bool, true, false, not, _&&_, _||_}
-use Rattle.drive.specs.declared.State.{State}
-use Rattle.drive.specs.Status.{statusOf}
+use Rattle.states.specs.declared.State.{State}
+use Rattle.states.specs.Status.{statusOf}
 use Rattle.legs.specs.declared.events.View.{View}
 use Rattle.modes.specs.declared.Mode.{Mode}
 use Rattle.modes.specs.declared.Mode.the-variants.{Homing, Position}

@@ -1,10 +1,10 @@
 // The statusword: the drive's bits, and those above bit 9 and bit 8 that homing, limits and the followed target set.
-use drive::State;
 use legs::events::View;
 use modes::Mode;
+use states::State;
 ghost use mathlib.Core.Path.{_≡_};
 ghost use Prim.Native.Nat.{_≤_};
-ghost use Rattle.drive.specs.Status.{statusOf};
+ghost use Rattle.states.specs.Status.{statusOf};
 ghost use Rattle.status.specs.Statusword.{weightOf, limitedOf, reachedOf, acknowledgedOf, homingErrorOf, statuswordOf};
 
 // What the statusword shows besides the drive's state.
@@ -66,5 +66,5 @@ pub fn statusword(state: State, mode: Mode, f: Flags) -> u16
     let limited = weight(f.limited, 2048);
     let acknowledged = weight(acknowledged(mode, f), 4096);
     let failed = weight(homing_error(mode, f), 8192);
-    drive::status(state) + homed + reached + limited + acknowledged + failed
+    states::status(state) + homed + reached + limited + acknowledged + failed
 }

@@ -1,8 +1,8 @@
 -- `drive::entered_fault` meets its contract.
 -- Assumes nothing.
 use borrow.Author.Needs.{needs}
-use Rattle.drive.proofs.entered_fault.Statement.{statement}
-use Rattle.drive.proofs.entered_fault.Tie as tie
+use Rattle.states.proofs.entered_fault.Statement.{statement}
+use Rattle.states.proofs.entered_fault.Tie as tie
 
 in-state-requires : tie.Need-in-state-requires
 in-state-requires c κs = search needs

@@ -4,10 +4,10 @@ use Prim.Native.Nat.{ℕ, _+_}
 use mathlib.Core.Path.{ap}
 use native.Mathlib.Omega.{arith}
 use lib.Count.{trailing-le}
-use Rattle.drive.specs.Alarm.{alarmNumberOf}
-use Rattle.drive.proofs.Least.{least}
-use Rattle.drive.proofs.alarm_number.Statement.{statement}
-use Rattle.drive.proofs.alarm_number.Tie as tie
+use Rattle.states.specs.Alarm.{alarmNumberOf}
+use Rattle.states.proofs.Least.{least}
+use Rattle.states.proofs.alarm_number.Statement.{statement}
+use Rattle.states.proofs.alarm_number.Tie as tie
 
 add-result : tie.Need-add-result
 add-result c = omega (arith, trailing-le 32 (c .args .alarm))

@@ -2,8 +2,8 @@
 -- Fault): 0000, 0250, 0231, 0233, 0237, 0217, 020F, 0208."
 -- Assumes nothing.
 use Prim.Native.Nat.{ℕ}
-use Rattle.drive.specs.declared.State.{State}
-use Rattle.drive.specs.declared.State.the-variants.{NotReady, SwitchOnDisabled, Ready, SwitchedOn, OperationEnabled, QuickStopActive, FaultReaction, Fault}
+use Rattle.states.specs.declared.State.{State}
+use Rattle.states.specs.declared.State.the-variants.{NotReady, SwitchOnDisabled, Ready, SwitchedOn, OperationEnabled, QuickStopActive, FaultReaction, Fault}
 
 abbrev pub statusOf : State → ℕ
 statusOf NotReady = 0x0000

@@ -3,9 +3,9 @@
 use Prim.Native.Nat.{ℕ, zero, suc, _+_}
 use mathlib.Core.Bool.{Bool, cond, not, _&&_}
 use Rattle.counts.specs.Bit.{bitOf}
-use Rattle.drive.specs.declared.State.{State}
-use Rattle.drive.specs.declared.State.the-variants.{FaultReaction, Fault}
-use Rattle.drive.specs.Transitions.{is}
+use Rattle.states.specs.declared.State.{State}
+use Rattle.states.specs.declared.State.the-variants.{FaultReaction, Fault}
+use Rattle.states.specs.States.{is}
 
 -- the first of n places, from `place` on, whose bit is set; past them where none is
 unfoldable pub leastSet : ℕ → ℕ → ℕ → ℕ

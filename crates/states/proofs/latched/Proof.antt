@@ -3,8 +3,8 @@
 use mathlib.Core.Path.{_≡_, sym, _∙_}
 use mathlib.Core.Bool.{Bool, not, _&&_}
 use borrow.Author.Needs.{needs}
-use Rattle.drive.proofs.latched.Statement.{statement}
-use Rattle.drive.proofs.latched.Tie as tie
+use Rattle.states.proofs.latched.Statement.{statement}
+use Rattle.states.proofs.latched.Tie as tie
 
 entered-fault-requires : tie.Need-entered-fault-requires
 entered-fault-requires c κs = search needs

@@ -7,7 +7,7 @@ use native.Mathlib.Nat.{div-div-eq-div-mul, pow-suc, div-one}
 use native.Mathlib.Omega.{arith}
 use lib.Count.{trailingZeros, under}
 use lib.Dec.{eqb}
-use Rattle.drive.specs.Alarm.{leastSet}
+use Rattle.states.specs.Alarm.{leastSet}
 
 -- from a place on, the zeros are those of what is left of the word
 from-place : (n place word : ℕ) → leastSet n place word ≡ place + trailingZeros n (word / 2 ^ place)

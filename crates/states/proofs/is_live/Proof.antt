@@ -1,8 +1,8 @@
 -- `drive::is_live` meets its contract.
 -- Assumes nothing.
 use borrow.Author.Needs.{needs}
-use Rattle.drive.proofs.is_live.Statement.{statement}
-use Rattle.drive.proofs.is_live.Tie as tie
+use Rattle.states.proofs.is_live.Statement.{statement}
+use Rattle.states.proofs.is_live.Tie as tie
 
 in-state-requires : tie.Need-in-state-requires
 in-state-requires c κs = search needs

@@ -1,8 +1,8 @@
 -- `drive::in_state` meets its contract.
 -- Assumes nothing.
 use borrow.Author.Needs.{needs}
-use Rattle.drive.proofs.in_state.Statement.{statement}
-use Rattle.drive.proofs.in_state.Tie as tie
+use Rattle.states.proofs.in_state.Statement.{statement}
+use Rattle.states.proofs.in_state.Tie as tie
 
 state-number-requires : tie.Need-state-number-requires
 state-number-requires c κs = search needs
