@@ -1,0 +1,46 @@
+//! One line in, one answer out, in order, from a fresh axis on.
+
+use crate::answers;
+use crate::axis::Axis;
+use crate::lines::{self, Line, Text, Unreadable};
+use crate::writer;
+
+/// What each word of a lent buffer holds before the call.
+const LENT: u32 = 0xDEAD_BEEF;
+
+#[derive(Default)]
+pub struct Program {
+    axis: Axis,
+    line: u64,
+}
+
+impl Program {
+    pub fn axis(&self) -> &Axis {
+        &self.axis
+    }
+
+    /// The answer to the next line, or nothing where a line gets none.
+    pub fn answer(&mut self, text: &Text) -> Option<String> {
+        self.answer_read(&lines::read(text))
+    }
+
+    /// The same for a line already read. "LINE counts every line from 1."
+    pub fn answer_read(&mut self, line: &Result<Line, Unreadable>) -> Option<String> {
+        self.line += 1;
+        match line {
+            Ok(Line::Blank) => None,
+            Ok(Line::Fresh) => {
+                self.axis = Axis::default();
+                Some("fresh".to_string())
+            }
+            Ok(Line::Word(word)) => Some(answers::word(self.axis.word(*word).err())),
+            Ok(Line::Tick(tick)) => Some(answers::tick(&self.axis.tick(tick))),
+            Ok(Line::Sheet { length, settings }) => {
+                let mut buffer = vec![LENT; *length];
+                let refusal = writer::write(settings, &mut buffer).err();
+                Some(answers::sheet(refusal, &buffer))
+            }
+            Err(unreadable) => Some(answers::unreadable(self.line, unreadable)),
+        }
+    }
+}

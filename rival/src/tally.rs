@@ -1,0 +1,87 @@
+//! What a script reaches, told line by line by the rival's own view.
+
+mod needed;
+mod settings;
+mod text;
+mod ticks;
+
+use std::collections::BTreeMap;
+
+use crate::axis::Axis;
+use crate::lines::{self, Line, Text};
+use crate::refusal::Refusal;
+use crate::tick::Switches;
+
+pub struct Tally {
+    axis: Axis,
+    /// Those of the tick before, which the rival keeps only while it records for homing.
+    switches: Switches,
+    /// The refusal of the word before and the kind that was due then.
+    refused: Option<(Refusal, u32)>,
+    /// A takeover since the last tick.
+    taken_over: bool,
+    counts: BTreeMap<String, u64>,
+}
+
+impl Default for Tally {
+    fn default() -> Tally {
+        let counts = needed::names().into_iter().map(|name| (name, 0)).collect();
+        Tally { axis: Axis::default(), switches: Switches::default(), refused: None, taken_over: false, counts }
+    }
+}
+
+impl Tally {
+    /// Each thing to reach and how often it happened, in the order they are named.
+    pub fn table(&self) -> Vec<(String, u64)> {
+        needed::names().into_iter().map(|name| (name.clone(), self.counts[&name])).collect()
+    }
+
+    /// One line, its bytes with their end.
+    pub fn line(&mut self, raw: &[u8]) {
+        let mut rest = raw;
+        let Ok(Some(text)) = lines::next_text(&mut rest) else {
+            return;
+        };
+        let read = lines::read(&text);
+        self.saw_text(raw, &text, &read);
+        match read {
+            Ok(Line::Fresh) => {
+                self.saw("line: fresh");
+                self.axis = Axis::default();
+                self.switches = Switches::default();
+                self.refused = None;
+                self.taken_over = false;
+            }
+            Ok(Line::Word(word)) => self.saw_word(word),
+            Ok(Line::Tick(tick)) => self.saw_tick(&tick),
+            Ok(Line::Sheet { length, settings }) => self.saw_writer(length, &settings),
+            Ok(Line::Blank) | Err(_) => {}
+        }
+    }
+
+    /// A name that nobody needs is a slip of the pen in this program.
+    fn saw(&mut self, name: &str) {
+        match self.counts.get_mut(name) {
+            Some(count) => *count += 1,
+            None => panic!("nobody needs to see: {name}"),
+        }
+    }
+
+    fn saw_if(&mut self, happened: bool, name: &str) {
+        if happened {
+            self.saw(name);
+        }
+    }
+}
+
+/// How a refusal is named in the table.
+fn refused(by: &str, refusal: Refusal) -> String {
+    format!("{by} refused {}: {}", refusal.number(), refusal.trade_word())
+}
+
+fn bytes(text: &Text) -> Option<&[u8]> {
+    match text {
+        Text::Bytes(bytes) => Some(bytes),
+        Text::TooLong => None,
+    }
+}
