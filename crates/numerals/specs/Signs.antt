@@ -1,0 +1,33 @@
+-- Signed numbers in ASCII: "an optional `-` and 1 to 10 decimal digits, within 16 or 32 bits signed".
+-- Assumes nothing.
+use Prim.Native.Nat.{ℕ, _<_}
+use mathlib.Core.Bool.{cond}
+use mathlib.Core.List.{List, [], _∷_}
+use lib.Dec.{eqb, leb, ltb}
+use lib.IntN.{pos, negℤ}
+use lib.Signed.{mag}
+use Rattle.numerals.specs.declared.Number.{Number}
+use Rattle.numerals.specs.declared.Number.the-variants.{Value, Unreadable}
+use Rattle.numerals.specs.declared.Whole.{Whole}
+use Rattle.numerals.specs.declared.Whole.the-variants as whole
+use Rattle.numerals.specs.Spelling.{decimalOf}
+
+-- a number with no sign, if it lies below `half`
+abbrev pub positiveOf : ℕ → Number → Whole
+positiveOf half (Value n) = cond (ltb n half) (whole.Value (pos n)) whole.Unreadable
+positiveOf half Unreadable = whole.Unreadable
+
+-- a number after a `-`, if it does not exceed `half`
+abbrev pub negativeOf : ℕ → Number → Whole
+negativeOf half (Value n) = cond (leb n half) (whole.Value (negℤ (pos n))) whole.Unreadable
+negativeOf half Unreadable = whole.Unreadable
+
+-- from -half to half - 1
+abbrev pub signedOf : ℕ → List ℕ → Whole
+signedOf half [] = whole.Unreadable
+signedOf half (b ∷ bs) = cond (eqb b 45) (negativeOf half (decimalOf bs)) (positiveOf half (decimalOf (b ∷ bs)))
+
+-- a number that is read lies from -half to half - 1
+abbrev pub Within : ℕ → Whole → Type 0
+Within half (whole.Value z) = mag z < half
+Within half whole.Unreadable = Unit {0}

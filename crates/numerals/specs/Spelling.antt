@@ -1,0 +1,47 @@
+-- Whole numbers in ASCII: what digits spell.
+-- Assumes nothing.
+use Prim.Native.Nat.{ℕ, _+_, _-_, _*_, _^_, _<_}
+use mathlib.Core.Bool.{Bool, cond, _&&_}
+use mathlib.Core.List.{List, [], _∷_}
+use lib.Dec.{leb, ltb}
+use lib.ListN.{length}
+use Rattle.numerals.specs.declared.Number.{Number}
+use Rattle.numerals.specs.declared.Number.the-variants.{Value, Unreadable}
+
+abbrev pub between : ℕ → ℕ → ℕ → Bool
+between low high b = leb low b && leb b high
+
+-- the value of a digit: `0` to `9`, `A` to `F` or `a` to `f`; 16 for any other byte
+unfoldable pub digitOf : ℕ → ℕ
+digitOf b = cond (between 48 57 b) (b - 48) (cond (between 65 70 b) (b - 55) (cond (between 97 102 b) (b - 87) 16))
+
+-- what digits of a base spell after digits that spell v
+unfoldable pub spelledFrom : ℕ → ℕ → List ℕ → Number
+spelledFrom base v [] = Value v
+spelledFrom base v (b ∷ bs) = cond (ltb (digitOf b) base) (spelledFrom base (v * base + digitOf b) bs) Unreadable
+
+-- what 1 to `most` digits spell
+unfoldable pub spelledOf : ℕ → ℕ → List ℕ → Number
+spelledOf base most bs = cond (between 1 most (length bs)) (spelledFrom base 0 bs) Unreadable
+
+-- 1 to 10 decimal digits
+abbrev pub decimalOf : List ℕ → Number
+decimalOf bs = spelledOf 10 10 bs
+
+-- a number, if it lies below a limit
+abbrev pub belowOf : ℕ → Number → Number
+belowOf limit (Value n) = cond (ltb n limit) (Value n) Unreadable
+belowOf limit Unreadable = Unreadable
+
+-- "U32: 1 to 10 decimal digits, below 2^32"
+abbrev pub unsigned32Of : List ℕ → Number
+unsigned32Of bs = belowOf (2 ^ 32) (decimalOf bs)
+
+-- "LENGTH is a decimal from 0 to 32"
+abbrev pub lengthOf : List ℕ → Number
+lengthOf bs = belowOf 33 (decimalOf bs)
+
+-- a number that is read lies below a limit
+abbrev pub Below : ℕ → Number → Type 0
+Below limit (Value n) = n < limit
+Below limit Unreadable = Unit {0}

@@ -1,0 +1,26 @@
+-- `scanner::Cursor::end` meets its contract.
+-- Assumes nothing.
+use mathlib.Core.Path.{ap, _∙_}
+use lib.Dec.{eqb}
+use lib.ListN.{length}
+use Rattle.scanner.specs.declared.Expected.the-variants.{End}
+use Rattle.scanner.specs.Cursor.{judgeOf}
+use Rattle.scanner.specs.Readings.{endOf}
+use borrow.Author.Needs.{needs}
+use Rattle.scanner.proofs.Cursor.end.Statement.{statement}
+use Rattle.scanner.proofs.Cursor.end.Tie as tie
+
+next-requires : tie.Need-next-requires
+next-requires c κs = search needs
+
+judge-requires : tie.Need-judge-requires
+judge-requires c κs = search needs
+
+returns : tie.Need-returns
+unfolding endOf
+returns c =
+    let a = c .before .before .before .before .args in
+    c .judge .ensures ∙ ap (λ v. judgeOf (a .self) v (eqb (v .start) (length (a .text .now))) End) (c .before .before .next .ensures .0)
+
+pub end-spec : {M : Type 1} → statement M
+end-spec = tie.close (tie.spec next-requires judge-requires returns)
