@@ -1,3 +1,4 @@
 pub mod Digits
 pub mod Reach
 pub mod Signs
+pub mod Back
