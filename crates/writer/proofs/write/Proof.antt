@@ -11,12 +11,12 @@ use Rattle.settings.specs.declared.Verdict.the-variants.{Accepted}
 use Rattle.settings.specs.Ranges.{inRange}
 use Rattle.settings.specs.Check.{verdictOf}
 use Rattle.settings.proofs.Numbers.{accepts, passes}
 use Rattle.words.specs.Encode.{valuesOf, wordsOf}
-use Rattle.words.specs.Write.{writeVerdict}
+use Rattle.writer.specs.Write.{writeVerdict}
 use Rattle.words.proofs.Widths.{values-below, below-at}
 use borrow.Author.Needs.{needs}
-use Rattle.words.proofs.writer.write.Statement.{statement}
-use Rattle.words.proofs.writer.write.Tie as tie
+use Rattle.writer.proofs.write.Statement.{statement}
+use Rattle.writer.proofs.write.Tie as tie
 
 -- a buffer that is long enough leaves the verdict to the settings
 long : (s : Settings) (buffer : List ℕ) → 15 ≤ length buffer → writeVerdict s buffer ≡ verdictOf s

@@ -3,8 +3,8 @@
 use native.Mathlib.Omega.{arith}
 use borrow.Author.Tests.{leb-true}
 use borrow.Author.Needs.{needs}
-use Rattle.words.proofs.writer.limit_set.Statement.{statement}
-use Rattle.words.proofs.writer.limit_set.Tie as tie
+use Rattle.writer.proofs.limit_set.Statement.{statement}
+use Rattle.writer.proofs.limit_set.Tie as tie
 
 mul-result : tie.Need-mul-result
 mul-result c = omega (arith, leb-true (c .args .negative) 3000 (c .pre .1))

@@ -1,8 +1,8 @@
 // Writing settings as words into a lent buffer.
-use crate::KIND;
 use settings::Refusal;
 use settings::Settings;
 use settings::Verdict;
+use words::KIND;
 ghost use mathlib.Core.Path.{_≡_};
 ghost use Prim.Native.Nat.{_≤_};
 ghost use mathlib.Core.Bool.{true};
@@ -11,8 +11,8 @@ ghost use lib.ListN.{length, drop};
 ghost use Rattle.counts.specs.Wrap.{modulo};
 ghost use Rattle.ranges.specs.Range.{torqueOk};
 ghost use Rattle.settings.specs.Ranges.{inRange};
 ghost use Rattle.words.specs.Encode.{limitSet, valuesOf, below, sealed};
-ghost use Rattle.words.specs.Write.{writeVerdict, written};
+ghost use Rattle.writer.specs.Write.{writeVerdict, written};
 
 // The low 28 bits of a position.
 fn low(position: i32) -> u32

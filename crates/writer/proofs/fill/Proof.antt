@@ -8,10 +8,10 @@ use native.Mathlib.Omega.{arith}
 use borrow.Author.Needs.{needs}
 use lib.ListN.{length, take, drop, getD, length-set}
 use lib.Seq.{take-all}
 use Rattle.words.specs.Encode.{total, checksumOf, sealed}
 use Rattle.words.proofs.Words.{fill-more, total-more, length-sealed, sealed-word, sealed-end}
-use Rattle.words.proofs.writer.fill.Statement.{statement}
-use Rattle.words.proofs.writer.fill.Tie as tie
+use Rattle.writer.proofs.fill.Statement.{statement}
+use Rattle.writer.proofs.fill.Tie as tie
 
 abbrev Inv-loop : tie.InvT-loop
 Inv-loop buffer₀ values sum₀ i₀ buffer sum i =

@@ -13,8 +13,8 @@ use mir.ValLaws.{toZ-pos}
 use Rattle.counts.specs.Wrap.{modulo}
 use Rattle.counts.proofs.Integers.{read-wide, cast-fits}
 use borrow.Author.Needs.{needs}
-use Rattle.words.proofs.writer.low.Statement.{statement}
-use Rattle.words.proofs.writer.low.Tie as tie
+use Rattle.writer.proofs.low.Statement.{statement}
+use Rattle.writer.proofs.low.Tie as tie
 
 -- the sum as a natural number
 raised : (z : ℤ) → SFits w32 z → (k : ℕ) × (z +ℤ pos (2 ^ 32) ≡ pos k) × (k < 2 ^ 33) × (k % 2 ^ 28 ≡ modulo 28 z)

@@ -17,8 +17,8 @@ use Rattle.settings.specs.Check.{acceptable, verdictOf}
 use Rattle.settings.specs.Cases.{outOfRange, limitsCrossed, outOfReach}
 use Rattle.settings.proofs.First.{hit, skip, miss}
 use Rattle.settings.proofs.Numbers.{check-number, accepts}
-use Rattle.words.specs.Write.{writeVerdict}
-use Rattle.words.specs.Cases.{bufferTooShort}
+use Rattle.writer.specs.Write.{writeVerdict}
+use Rattle.writer.specs.Cases.{bufferTooShort}
 
 module _ (s : Settings) (buffer : List ℕ) where
   -- the cases in the order of the tests

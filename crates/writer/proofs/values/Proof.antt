@@ -1,12 +1,12 @@
 -- `words::writer::values` meets its contract.
 -- Assumes nothing.
 use Rattle.words.proofs.Bits.{position-fits}
 use mir.Facts.{toZ-ofZ}
 use Rattle.settings.proofs.Within.{within}
 use Rattle.words.specs.Encode.{valuesOf}
 use borrow.Author.Needs.{needs}
-use Rattle.words.proofs.writer.values.Statement.{statement}
-use Rattle.words.proofs.writer.values.Tie as tie
+use Rattle.writer.proofs.values.Statement.{statement}
+use Rattle.writer.proofs.values.Tie as tie
 
 low-requires : tie.Need-low-requires
 low-requires c κs = search needs
