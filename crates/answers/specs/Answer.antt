@@ -18,8 +18,8 @@ use Rattle.position.specs.Position.{positionOf, clampedOf}
 use Rattle.speed.specs.Speed.{speedOf}
 use Rattle.status.specs.declared.Flags.{Flags}
 use Rattle.status.specs.Statusword.{limitedOf, statuswordOf}
+use Rattle.motion.specs.declared.Motion.{Motion}
 use Rattle.ticks.specs.declared.Tick.{Tick}
-use Rattle.ticks.specs.declared.Motion.{Motion}
 use Rattle.ticks.specs.declared.Moment.{Moment}
 use Rattle.ticks.specs.Moment.{momentOf}
 use Rattle.answers.specs.declared.Answer.{Answer}

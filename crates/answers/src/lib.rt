@@ -1,11 +1,11 @@
 // What a tick hands out.
 use homing::Phase;
+use motion::Motion;
 use position::Followed;
 use settings::Refusal;
 use settings::Settings;
 use status::Flags;
 use ticks::Moment;
-use ticks::Motion;
 use ticks::Tick;
 ghost use mathlib.Core.Path.{_≡_};
 ghost use Rattle.answers.specs.Answer.{refusedAnswer, isFollowing, runningIn, failedIn, flagsOf, answerIn, answeredIn};
@@ -81,7 +81,7 @@ fn flags(s: Settings, m: Moment) -> Flags
     let followed = m.followed;
     let view = m.view;
     Flags {
-        homed: ticks::homed(phase),
+        homed: motion::homed(phase),
         running: running(phase),
         failed: failed(phase),
         following: following(followed),

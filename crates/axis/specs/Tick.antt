@@ -3,8 +3,8 @@
 use Rattle.settings.specs.declared.Settings.{Settings}
 use Rattle.settings.specs.declared.Refusal.the-variants.{NoSettings}
 use Rattle.reader.specs.Read.{emptyPending}
+use Rattle.motion.specs.Motion.{freshMotion}
 use Rattle.ticks.specs.declared.Tick.{Tick}
-use Rattle.ticks.specs.Moment.{freshMotion}
 use Rattle.answers.specs.declared.Answered.{Answered}
 use Rattle.answers.specs.Answer.{refusedAnswer, answeredIn}
 use Rattle.axis.specs.declared.Active.{Active}

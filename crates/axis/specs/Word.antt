@@ -11,7 +11,7 @@ use Rattle.reader.specs.declared.Outcome.{Outcome}
 use Rattle.reader.specs.declared.Outcome.the-variants.{Refused, Stored, Complete}
 use Rattle.reader.specs.Read.{readOf}
 use Rattle.states.specs.States.{liveOf}
-use Rattle.ticks.specs.Moment.{idled}
+use Rattle.motion.specs.Motion.{idled}
 use Rattle.axis.specs.declared.Active.the-variants.{Set}
 use Rattle.axis.specs.declared.Axis.{Axis}
 use Rattle.axis.specs.declared.Worded.{Worded}

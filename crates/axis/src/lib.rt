@@ -1,12 +1,12 @@
 // One axis, fed by settings words and ticks.
 use answers::Answer;
 use answers::Answered;
+use motion::Motion;
 use reader::Outcome;
 use reader::Pending;
 use settings::Refusal;
 use settings::Settings;
 use settings::Verdict;
-use ticks::Motion;
 use ticks::Tick;
 ghost use mathlib.Core.Path.{_≡_};
 ghost use Rattle.homing.specs.Places.{homedIn};
@@ -160,6 +160,6 @@ impl Axis {
     {
         let motion = self.motion;
         let phase = motion.phase;
-        ticks::homed(phase)
+        motion::homed(phase)
     }
 }

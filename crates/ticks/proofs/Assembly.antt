@@ -16,7 +16,7 @@ use Rattle.legs.specs.declared.events.View.{View}
 use Rattle.homing.specs.declared.Phase.{Phase}
 use Rattle.homing.specs.Places.{homedIn}
 use Rattle.position.specs.declared.Followed.{Followed}
-use Rattle.ticks.specs.declared.Motion.{Motion}
+use Rattle.motion.specs.declared.Motion.{Motion}
 use Rattle.ticks.specs.declared.Tick.{Tick}
 use Rattle.ticks.specs.declared.Moment.{Moment}
 use Rattle.ticks.specs.Rules.{matchedIn, alarmIn, homingOn, homingIn, viewWith}

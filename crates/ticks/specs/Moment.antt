@@ -1,26 +1,22 @@
 -- 01, "A tick": mode, drive state, homing; then control word, switches and position are remembered.
 -- Assumes nothing.
 use Prim.Native.Nat.{ℕ}
-use mathlib.Core.Bool.{Bool, true, false, cond, not, _&&_, _||_}
-use lib.IntN.{ℤ, pos}
+use mathlib.Core.Bool.{Bool, cond, not, _&&_, _||_}
+use lib.IntN.{ℤ}
 use Rattle.settings.specs.declared.Settings.{Settings}
 use Rattle.states.specs.declared.State.{State}
-use Rattle.states.specs.declared.State.the-variants.{NotReady}
 use Rattle.states.specs.Alarm.{latchedOf}
 use Rattle.modes.specs.declared.Mode.{Mode}
-use Rattle.modes.specs.declared.Mode.the-variants.{None}
 use Rattle.commands.specs.declared.Command.{Command}
 use Rattle.commands.specs.declared.Command.the-variants.{Hybrid, Homing, Position, Torque, Rest}
-use Rattle.legs.specs.declared.events.Switches.{Switches}
 use Rattle.legs.specs.declared.events.View.{View}
 use Rattle.homing.specs.declared.Phase.{Phase}
-use Rattle.homing.specs.declared.Phase.the-variants.{Idle}
 use Rattle.homing.specs.Places.{startOf, stepOf, homedIn}
 use Rattle.position.specs.declared.Followed.{Followed}
 use Rattle.position.specs.declared.Followed.the-variants.{Nothing}
 use Rattle.position.specs.Position.{followedOf}
+use Rattle.motion.specs.declared.Motion.{Motion}
 use Rattle.ticks.specs.declared.Tick.{Tick}
-use Rattle.ticks.specs.declared.Motion.{Motion}
 use Rattle.ticks.specs.declared.Moment.{Moment}
 use Rattle.ticks.specs.Rules.{modeAfter, matchedIn, demandIn, alarmIn, stateAfter, startsIn, viewOf}
 
@@ -84,35 +80,4 @@ momentOf s a t =
       demand = demandIn s t;
       view = newView s a t;
       followed = targetOf (t .command) (matchedIn t (newMode a t)) (newState s a t) (homedIn (newPhase s a t));
-    }
-
-abbrev allOff : Switches
-allOff = record { positive = false; negative = false; home = false; index = false }
-
--- "state Not ready, idle homing and neither homed nor error"; "a fresh axis remembers zeros and shows mode 0, alarm 0"
-abbrev pub freshMotion : Motion
-freshMotion =
-    record {
-      state = NotReady;
-      mode = None;
-      alarm = 0;
-      phase = Idle;
-      home = pos 0;
-      control = 0;
-      switches = allOff;
-      position = pos 0;
-    }
-
--- "homed and homing error are cleared, homing is idle; drive state, shown mode, alarm number and remembered inputs stay"
-abbrev pub idled : Motion → Motion
-idled a =
-    record {
-      state = a .state;
-      mode = a .mode;
-      alarm = a .alarm;
-      phase = Idle;
-      home = a .home;
-      control = a .control;
-      switches = a .switches;
-      position = a .position;
     }

@@ -5,14 +5,14 @@ use homing::Phase;
 use legs::events::Switches;
 use legs::events::View;
 use modes::Mode;
+use motion::Motion;
 use position::Followed;
 use settings::Settings;
 use states::State;
 use torque::LimitSet;
 ghost use mathlib.Core.Path.{_≡_};
-ghost use Rattle.homing.specs.Places.{homedIn};
 ghost use Rattle.ticks.specs.Rules.{homingOn, viewWith};
-ghost use Rattle.ticks.specs.Moment.{phaseAfter, homeAfter, targetOf, momentOf, freshMotion, idled};
+ghost use Rattle.ticks.specs.Moment.{phaseAfter, homeAfter, targetOf, momentOf};
 
 // The inputs of one tick.
 pub struct Tick {
@@ -27,22 +27,6 @@ pub struct Tick {
     pub alarm: u32,
 }
 
-// What an axis keeps from tick to tick.
-pub struct Motion {
-    pub state: State,
-    // Modes of operation display (01: shown mode).
-    pub mode: Mode,
-    // Latched alarm number.
-    pub alarm: u32,
-    pub phase: Phase,
-    // The count of home; of no meaning unless homed.
-    pub home: i32,
-    // Remembered inputs.
-    pub control: u16,
-    pub switches: Switches,
-    pub position: i32,
-}
-
 // What a tick comes to.
 pub struct Moment {
     // What is kept for the next tick.
@@ -51,50 +35,6 @@ pub struct Moment {
     pub demand: Demand,
     pub view: View,
     pub followed: Followed,
-}
-
-impl Motion {
-    // Not ready, homing idle, nothing remembered.
-    pub fn fresh() -> Motion
-        ensures { λ r. ⌜ r ≡ freshMotion ⌝ }
-    {
-        Motion {
-            state: State::NotReady,
-            mode: Mode::None,
-            alarm: 0,
-            phase: Phase::Idle,
-            home: 0,
-            control: 0,
-            switches: Switches {
-                positive: false,
-                negative: false,
-                home: false,
-                index: false,
-            },
-            position: 0,
-        }
-    }
-
-    // Homing idle, all else as before. Home stays, of no meaning until homed.
-    pub fn idle(self) -> Motion
-        ensures { λ r. ⌜ r ≡ idled self ⌝ }
-    {
-        Motion {
-            phase: Phase::Idle,
-            ..self
-        }
-    }
-}
-
-pub fn homed(phase: Phase) -> bool
-    ensures { λ r. ⌜ r ≡ homedIn phase ⌝ }
-{
-    match phase {
-        Phase::Idle => false,
-        Phase::Running(_) => false,
-        Phase::Homed => true,
-        Phase::Failed => false,
-    }
 }
 
 // Homing is wanted and matched, and the drive in Operation enabled.
@@ -174,13 +114,19 @@ pub fn reached(was: Motion, s: Settings, t: Tick) -> Moment
     let starting = drive::rising(was.control, t.control, 4) & on;
     let view = view(was, t, on);
     let phase = phase_after(running, s.method, starting, view);
-    let is_homed = homed(phase);
+    let is_homed = motion::homed(phase);
     let motion = Motion {
         state: state,
         mode: mode,
         alarm: states::latched(was.alarm, before, state, alarm),
         phase: phase,
-        home: home_after(was.home, starting, homed(running), is_homed, t.position),
+        home: home_after(
+            was.home,
+            starting,
+            motion::homed(running),
+            is_homed,
+            t.position,
+        ),
         control: t.control,
         switches: switches,
         position: t.position,
