@@ -1,11 +1,2 @@
-pub mod Events
-pub mod Rules
 pub mod Word
-pub mod Answer
 pub mod Tick
-pub mod Replies
-pub mod Activation
-pub mod Known
-pub mod Demand
-pub mod Whole
-pub mod Examples

@@ -1,127 +1,43 @@
--- 01, "A tick": mode, drive state, homing, answer; then control word, switches and position are remembered.
+-- 01, "A tick": what it comes to, its answer, and what the axis keeps of it.
 -- Assumes nothing.
-use Prim.Native.Nat.{ℕ}
-use mathlib.Core.Bool.{Bool, true, false, cond, not, _&&_, _||_}
-use lib.IntN.{ℤ, pos}
 use Rattle.settings.specs.declared.Settings.{Settings}
 use Rattle.settings.specs.declared.Refusal.the-variants.{NoSettings}
 use Rattle.reader.specs.Read.{emptyPending}
-use Rattle.states.specs.declared.State.{State}
-use Rattle.states.specs.declared.State.the-variants.{NotReady}
-use Rattle.states.specs.Alarm.{latchedOf}
-use Rattle.modes.specs.declared.Mode.{Mode}
-use Rattle.modes.specs.declared.Mode.the-variants.{None}
-use Rattle.commands.specs.declared.Command.{Command}
-use Rattle.commands.specs.declared.Command.the-variants.{Hybrid, Homing, Position, Torque, Rest}
-use Rattle.legs.specs.declared.events.Switches.{Switches}
-use Rattle.legs.specs.declared.events.View.{View}
-use Rattle.homing.specs.declared.Phase.{Phase}
-use Rattle.homing.specs.declared.Phase.the-variants.{Idle}
-use Rattle.homing.specs.Places.{startOf, stepOf, homedIn}
-use Rattle.position.specs.declared.Followed.{Followed}
-use Rattle.position.specs.declared.Followed.the-variants.{Nothing}
-use Rattle.position.specs.Position.{followedOf}
+use Rattle.motion.specs.Motion.{freshMotion}
+use Rattle.ticks.specs.declared.Tick.{Tick}
+use Rattle.answers.specs.declared.Answered.{Answered}
+use Rattle.answers.specs.Answer.{refusedAnswer, answeredIn}
 use Rattle.axis.specs.declared.Active.{Active}
-use Rattle.axis.specs.declared.Active.the-variants as active
+use Rattle.axis.specs.declared.Active.the-variants.{Nothing, Set}
 use Rattle.axis.specs.declared.Axis.{Axis}
-use Rattle.axis.specs.declared.Tick.{Tick}
 use Rattle.axis.specs.declared.Ticked.{Ticked}
-use Rattle.axis.specs.declared.moments.Moment.{Moment}
-use Rattle.axis.specs.Rules.{modeAfter, matchedIn, demandIn, alarmIn, stateAfter, startsIn, viewOf}
-use Rattle.axis.specs.Answer.{refusedAnswer, answerIn}
 
--- mode and drive state after a tick
-abbrev pub newMode : Axis → Tick → Mode
-newMode a t = modeAfter (a .mode) (a .state) t
-
-abbrev pub newState : Settings → Axis → Tick → State
-newState s a t = stateAfter s (a .state) (a .control) t
-
--- the start tick, and what homing sees of any other
-abbrev pub starting : Settings → Axis → Tick → Bool
-starting s a t = startsIn (a .control) t (newMode a t) (newState s a t)
-
-abbrev pub newView : Settings → Axis → Tick → View
-newView s a t = viewOf (a .switches) (a .position) t (newMode a t) (newState s a t)
-
--- "The start tick … picks a or c by HOM in that tick and counts no event"; a later tick is a step
-abbrev pub phaseAfter : Phase → ℕ → Bool → View → Phase
-phaseAfter phase method starting v = cond starting (startOf method (v .now .home)) (stepOf phase method v)
-
-unfoldable pub newPhase : Settings → Axis → Tick → Phase
-newPhase s a t = phaseAfter (a .phase) (s .method) (starting s a t) (newView s a t)
-
--- "home is that tick's position": of the tick in which the axis becomes homed. A start under 35 homes anew, so home moves even if
--- the axis was homed.
-abbrev pub homeAfter : ℤ → Bool → Bool → Bool → ℤ → ℤ
-homeAfter home starting before after position = cond (after && (starting || not before)) position home
-
-abbrev pub newHome : Settings → Axis → Tick → ℤ
-newHome s a t = homeAfter (a .home) (starting s a t) (homedIn (a .phase)) (homedIn (newPhase s a t)) (t .position)
-
--- the target of a position command that is matched, enabled and homed
-abbrev pub targetOf : Command → Bool → State → Bool → Followed
-targetOf (Position target request) matched state homed = followedOf matched state homed target
-targetOf (Hybrid h) matched state homed = Nothing
-targetOf (Homing request) matched state homed = Nothing
-targetOf (Torque request) matched state homed = Nothing
-targetOf Rest matched state homed = Nothing
-
--- what a tick comes to
-abbrev pub momentOf : Settings → Axis → Tick → Moment
-momentOf s a t =
+-- the axis goes on with what a tick under settings leaves
+abbrev pub gone : Axis → Answered → Ticked
+gone a done =
     record {
-      mode = newMode a t;
-      matched = matchedIn t (newMode a t);
-      state = newState s a t;
-      demand = demandIn s t;
-      alarm = latchedOf (a .alarm) (a .state) (newState s a t) (alarmIn s t);
-      view = newView s a t;
-      phase = newPhase s a t;
-      home = newHome s a t;
-      followed = targetOf (t .command) (matchedIn t (newMode a t)) (newState s a t) (homedIn (newPhase s a t));
-    }
-
--- "then control word, switches and position are remembered"
-unfoldable pub axisIn : Axis → Tick → Moment → Axis
-axisIn a t m =
-    record {
-      active = a .active;
-      pending = a .pending;
-      state = m .state;
-      mode = m .mode;
-      alarm = m .alarm;
-      phase = m .phase;
-      home = m .home;
-      control = t .control;
-      switches = t .switches;
-      position = t .position;
+      axis =
+          record {
+            active = a .active;
+            pending = a .pending;
+            motion = done .motion;
+          };
+      answer = done .answer;
     }
 
 -- 8: "tick before any takeover … nothing changes"
 abbrev pub tickUnder : Active → Axis → Tick → Ticked
-tickUnder active.Nothing a t = record { axis = a; answer = refusedAnswer NoSettings }
-tickUnder (active.Set s) a t = record { axis = axisIn a t (momentOf s a t); answer = answerIn s t (momentOf s a t) }
+tickUnder Nothing a t = record { axis = a; answer = refusedAnswer NoSettings }
+tickUnder (Set s) a t = gone a (answeredIn s (a .motion) t)
 
 unfoldable pub tickOf : Axis → Tick → Ticked
 tickOf a t = tickUnder (a .active) a t
 
-abbrev allOff : Switches
-allOff = record { positive = false; negative = false; home = false; index = false }
-
--- "Its fresh axis has no sheet, an empty unfinished one, state Not ready, idle homing and neither homed nor error"; "a fresh axis remembers
--- zeros and shows mode 0, alarm 0"
+-- "Its fresh axis has no sheet, an empty unfinished one, state Not ready, idle homing and neither homed nor error"
 abbrev pub freshAxis : Axis
 freshAxis =
     record {
-      active = active.Nothing;
+      active = Nothing;
       pending = emptyPending;
-      state = NotReady;
-      mode = None;
-      alarm = 0;
-      phase = Idle;
-      home = pos 0;
-      control = 0;
-      switches = allOff;
-      position = pos 0;
+      motion = freshMotion;
     }

@@ -11,7 +11,7 @@ use Rattle.reader.specs.declared.Outcome.{Outcome}
 use Rattle.reader.specs.declared.Outcome.the-variants.{Refused, Stored, Complete}
 use Rattle.reader.specs.Read.{readOf}
 use Rattle.states.specs.States.{liveOf}
-use Rattle.homing.specs.declared.Phase.the-variants.{Idle}
+use Rattle.motion.specs.Motion.{idled}
 use Rattle.axis.specs.declared.Active.the-variants.{Set}
 use Rattle.axis.specs.declared.Axis.{Axis}
 use Rattle.axis.specs.declared.Worded.{Worded}
@@ -22,31 +22,16 @@ withPending a p =
     record {
       active = a .active;
       pending = p;
-      state = a .state;
-      mode = a .mode;
-      alarm = a .alarm;
-      phase = a .phase;
-      home = a .home;
-      control = a .control;
-      switches = a .switches;
-      position = a .position;
+      motion = a .motion;
     }
 
--- "all its fields come into force together, homed and homing error are cleared, homing is idle; drive state, shown mode, alarm number and
--- remembered inputs stay"
+-- "all its fields come into force together, homed and homing error are cleared, homing is idle"
 abbrev pub activated : Settings → Axis → Axis
 activated s a =
     record {
       active = Set s;
       pending = a .pending;
-      state = a .state;
-      mode = a .mode;
-      alarm = a .alarm;
-      phase = Idle;
-      home = a .home;
-      control = a .control;
-      switches = a .switches;
-      position = a .position;
+      motion = idled (a .motion);
     }
 
 abbrev worded : Axis → Verdict → Worded
@@ -56,7 +41,7 @@ worded a v = record { axis = a; verdict = v }
 abbrev pub taken : Axis → Outcome → Worded
 taken a (Refused r) = worded a (verdict.Refused r)
 taken a Stored = worded a verdict.Accepted
-taken a (Complete s) = cond (liveOf (a .state)) (worded a (verdict.Refused DriveActive)) (worded (activated s a) verdict.Accepted)
+taken a (Complete s) = cond (liveOf (a .motion .state)) (worded a (verdict.Refused DriveActive)) (worded (activated s a) verdict.Accepted)
 
 unfoldable pub wordOf : Axis → ℕ → Worded
 wordOf a w = taken (withPending a (readOf (a .pending) w .pending)) (readOf (a .pending) w .outcome)

@@ -1,23 +1,17 @@
 // One axis, fed by settings words and ticks.
-mod answers;
-mod moments;
-
-use commands::Command;
-use homing::Phase;
-use legs::events::Switches;
-use modes::Mode;
-use moments::Moment;
+use answers::Answer;
+use answers::Answered;
+use motion::Motion;
 use reader::Outcome;
 use reader::Pending;
 use settings::Refusal;
 use settings::Settings;
 use settings::Verdict;
-use states::State;
-use torque::LimitSet;
+use ticks::Tick;
 ghost use mathlib.Core.Path.{_≡_};
 ghost use Rattle.homing.specs.Places.{homedIn};
-ghost use Rattle.axis.specs.Tick.{axisIn, tickUnder, tickOf, freshAxis};
 ghost use Rattle.axis.specs.Word.{withPending, activated, taken, wordOf};
+ghost use Rattle.axis.specs.Tick.{gone, tickUnder, tickOf, freshAxis};
 
 // The settings in force.
 pub enum Active {
@@ -25,47 +19,11 @@ pub enum Active {
     Set(Settings),
 }
 
-// One axis: its settings, the drive's state, homing, and the inputs that it remembers from the tick before.
 pub struct Axis {
     pub active: Active,
     pub pending: Pending,
-    pub state: State,
-    // Modes of operation display (01: shown mode).
-    pub mode: Mode,
-    // Latched alarm number.
-    pub alarm: u32,
-    pub phase: Phase,
-    // The count of home; of no meaning unless homed.
-    pub home: i32,
-    // Remembered inputs.
-    pub control: u16,
-    pub switches: Switches,
-    pub position: i32,
-}
-
-// The inputs of one tick.
-pub struct Tick {
-    pub control: u16,
-    pub command: Command,
-    // Actual position, in counts.
-    pub position: i32,
-    pub switches: Switches,
-    // Standstill.
-    pub still: bool,
-    pub set: LimitSet,
-    pub alarm: u32,
-}
-
-// What a tick hands out.
-pub struct Answer {
-    // 0, or why the tick is refused.
-    pub number: u32,
-    pub torque: i32,
-    pub speed: i32,
-    pub position: i32,
-    pub status: u16,
-    pub mode: i32,
-    pub alarm: u32,
+    // The drive's state, homing, and the inputs that it remembers from the tick before.
+    pub motion: Motion,
 }
 
 pub struct Worded {
@@ -86,41 +44,20 @@ impl Axis {
         Axis {
             active: Active::Nothing,
             pending: Pending::empty(),
-            state: State::NotReady,
-            mode: Mode::None,
-            alarm: 0,
-            phase: Phase::Idle,
-            home: 0,
-            control: 0,
-            switches: Switches {
-                positive: false,
-                negative: false,
-                home: false,
-                index: false,
-            },
-            position: 0,
+            motion: Motion::fresh(),
         }
     }
 
-    // Settings come into force (01: takeover). Home stays, of no meaning until homed.
+    // Settings come into force (01: takeover).
     fn activate(self, s: Settings) -> Axis
         ensures { λ r. ⌜ r ≡ activated s self ⌝ }
     {
         let pending = self.pending;
-        let state = self.state;
-        let mode = self.mode;
-        let switches = self.switches;
+        let motion = self.motion;
         Axis {
             active: Active::Set(s),
             pending: pending,
-            state: state,
-            mode: mode,
-            alarm: self.alarm,
-            phase: Phase::Idle,
-            home: self.home,
-            control: self.control,
-            switches: switches,
-            position: self.position,
+            motion: motion.idle(),
         }
     }
 
@@ -131,7 +68,26 @@ impl Axis {
         self
     }
 
-    // What a word's outcome does: complete settings come into force unless the drive is live.
+    // Complete settings come into force unless the drive is live.
+    fn complete(self, s: Settings) -> Worded
+        ensures { λ r. ⌜ r ≡ taken self (Outcome.Complete s) ⌝ }
+    {
+        let motion = self.motion;
+        let state = motion.state;
+        if states::is_live(state) {
+            Worded {
+                axis: self,
+                verdict: Verdict::Refused(Refusal::DriveActive),
+            }
+        } else {
+            Worded {
+                axis: self.activate(s),
+                verdict: Verdict::Accepted,
+            }
+        }
+    }
+
+    // What a word's outcome does.
     fn take(self, outcome: Outcome) -> Worded
         ensures { λ r. ⌜ r ≡ taken self outcome ⌝ }
     {
@@ -144,20 +100,7 @@ impl Axis {
                 axis: self,
                 verdict: Verdict::Accepted,
             },
-            Outcome::Complete(s) => {
-                let state = self.state;
-                if states::is_live(state) {
-                    Worded {
-                        axis: self,
-                        verdict: Verdict::Refused(Refusal::DriveActive),
-                    }
-                } else {
-                    Worded {
-                        axis: self.activate(s),
-                        verdict: Verdict::Accepted,
-                    }
-                }
-            }
+            Outcome::Complete(s) => self.complete(s),
         }
     }
 
@@ -172,38 +115,24 @@ impl Axis {
         next.take(outcome)
     }
 
-    // The axis after a tick under settings.
-    fn after(self, t: Tick, m: Moment) -> Axis
-        ensures { λ r. ⌜ r ≡ axisIn self t m ⌝ }
+    // The axis goes on with what a tick leaves.
+    fn go_on(mut self, done: Answered) -> Ticked
+        ensures { λ r. ⌜ r ≡ gone self done ⌝ }
     {
-        let active = self.active;
-        let pending = self.pending;
-        let state = m.state;
-        let mode = m.mode;
-        let phase = m.phase;
-        let switches = t.switches;
-        Axis {
-            active: active,
-            pending: pending,
-            state: state,
-            mode: mode,
-            alarm: m.alarm,
-            phase: phase,
-            home: m.home,
-            control: t.control,
-            switches: switches,
-            position: t.position,
+        let motion = done.motion;
+        let answer = done.answer;
+        self.motion = motion;
+        Ticked {
+            axis: self,
+            answer: answer,
         }
     }
 
     fn tick_under(self, s: Settings, t: Tick) -> Ticked
         ensures { λ r. ⌜ r ≡ tickUnder (Active.Set s) self t ⌝ }
     {
-        let m = moments::reached(self, s, t);
-        Ticked {
-            axis: self.after(t, m),
-            answer: answers::given(s, t, m),
-        }
+        let motion = self.motion;
+        self.go_on(answers::to_tick(motion, s, t))
     }
 
     // One tick; refused while no settings are in force.
@@ -227,9 +156,10 @@ impl Axis {
     }
 
     pub fn is_homed(self) -> bool
-        ensures { λ r. ⌜ r ≡ homedIn (self .phase) ⌝ }
+        ensures { λ r. ⌜ r ≡ homedIn (self .motion .phase) ⌝ }
     {
-        let phase = self.phase;
-        moments::homed(phase)
+        let motion = self.motion;
+        let phase = motion.phase;
+        motion::homed(phase)
     }
 }

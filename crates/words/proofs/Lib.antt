@@ -1,4 +1,3 @@
 pub mod Words
 pub mod Bits
 pub mod Widths
-pub mod Numbers

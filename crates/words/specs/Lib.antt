@@ -1,5 +1,3 @@
 pub mod Word
 pub mod Encode
 pub mod Decode
-pub mod Write
-pub mod Cases

@@ -1,6 +1,5 @@
 // Settings words: the fifteen 32-bit words that carry settings (01: a sheet). A word's top 4 bits are its kind, the low 28 its data.
 pub mod decoder;
-pub mod writer;
 
 // 2^28, the weight of a word's kind.
 pub const KIND: u32 = 268435456;

@@ -4,17 +4,14 @@ use borrow.Author.Needs.{needs}
 use Rattle.axis.proofs.Axis.tick_under.Statement.{statement}
 use Rattle.axis.proofs.Axis.tick_under.Tie as tie
 
-reached-requires : tie.Need-reached-requires
-reached-requires c κs = search needs
+to-tick-requires : tie.Need-to-tick-requires
+to-tick-requires c κs = search needs
 
-after-requires : tie.Need-after-requires
-after-requires c κs = search needs
-
-given-requires : tie.Need-given-requires
-given-requires c κs = search needs
+go-on-requires : tie.Need-go-on-requires
+go-on-requires c κs = search needs
 
 returns : tie.Need-returns
-returns c = rw (c .given .ensures, c .before .after .ensures, c .before .before .reached .ensures)
+returns c = rw (c .go-on .ensures, c .before .to-tick .ensures)
 
 pub tick-under-spec : {M : Type 1} → statement M
-tick-under-spec = tie.close (tie.spec reached-requires after-requires given-requires returns)
+tick-under-spec = tie.close (tie.spec to-tick-requires go-on-requires returns)

@@ -1,0 +1,5 @@
+pub mod Activation
+pub mod Matches
+pub mod Kept
+pub mod Promised
+pub mod Whole

@@ -1,0 +1,234 @@
+-- Demands 1 and 2 over a whole axis. A tick neither reads nor writes the pending settings; a word that is not stored leaves none.
+-- Assumes nothing.
+use Prim.Native.Nat.{ℕ, _+_, _*_, _/_, _%_, _^_, _<_, _≤_}
+use mathlib.Core.Path.{_≡_, refl, sym, ap, _∙_, subst}
+use mathlib.Core.Bool.{Bool, true, false, cond}
+use mathlib.Core.List.{List, [], _∷_, _++_, map, nil≢cons, head-eq-of-cons-eq, tail-eq-of-cons-eq}
+use native.Mathlib.Omega.{arith}
+use lib.ListN.{length}
+use Rattle.settings.specs.declared.Settings.{Settings}
+use Rattle.settings.specs.declared.Refusal.{Refusal}
+use Rattle.settings.specs.declared.Refusal.the-variants.{DriveActive}
+use Rattle.settings.specs.declared.Verdict.the-variants as verdict
+use Rattle.settings.specs.Refusal.{numberOf}
+use Rattle.settings.specs.Check.{acceptable}
+use Rattle.settings.proofs.Numbers.{passes}
+use Rattle.words.specs.Word.{kindOf, wordOf as wordBy}
+use Rattle.words.specs.Encode.{valuesOf, checksumOf, wordsFrom, wordsOf}
+use Rattle.words.proofs.Words.{length-words}
+use Rattle.words.proofs.Widths.{Below, values-below}
+use Rattle.reader.specs.declared.Pending.{Pending}
+use Rattle.reader.specs.declared.Reading.{Reading}
+use Rattle.reader.specs.declared.Outcome.{Outcome}
+use Rattle.reader.specs.declared.Outcome.the-variants.{Refused, Stored, Complete}
+use Rattle.reader.specs.Read.{emptyPending, readOf, outcomeNumber}
+use Rattle.reader.proofs.Numbers.{never-7}
+use Rattle.reader.proofs.Accepted.{AcceptedBy, ReadBy, refuses, accepted, begins, keeps, closes, read-by, accepted-by}
+use Rattle.states.specs.States.{liveOf}
+use Rattle.roundtrip.specs.ReadInto.{ReadInto, last, more}
+use Rattle.roundtrip.specs.Stream.{pendingFrom}
+use Rattle.roundtrip.proofs.There.{there}
+use Rattle.roundtrip.proofs.Completed.{last-completes, snoc-inj}
+use Rattle.axis.specs.declared.Active.{Active}
+use Rattle.axis.specs.declared.Active.the-variants.{Nothing, Set}
+use Rattle.axis.specs.declared.Axis.{Axis}
+use Rattle.ticks.specs.declared.Tick.{Tick}
+use Rattle.axis.specs.declared.Worded.{Worded}
+use Rattle.axis.specs.Word.{withPending, activated, taken, wordOf}
+use Rattle.axis.specs.Tick.{tickUnder, tickOf}
+use Rattle.answers.specs.Answer.{answerIn, answeredIn}
+use Rattle.demands.specs.Events.{Event, word, tick}
+use Rattle.demands.specs.Replies.{Reply, said, answered, leftBy, axisFrom, repliesFrom}
+use Rattle.demands.specs.Whole.{Unseen, RefusedWord, RefusedWords, RefusedTick, RefusedTicks, wordsIn, AllAccepted, Activates, RoundTrip, EndsLive, Given7, Given8}
+
+-- ---- a refused word
+
+-- a word that is not stored leaves nothing pending
+left-empty : (p : Pending) (w : ℕ) → (readOf p w .outcome ≡ Stored → ⊥) → readOf p w .pending ≡ emptyPending
+left-empty p w n = go (read-by p w)
+  where
+    go : ReadBy p w → readOf p w .pending ≡ emptyPending
+    go (refuses r e) = ap (λ (a : Reading). a .pending) e
+    go (accepted (closes d i l e)) = ap (λ (a : Reading). a .pending) e
+    go (accepted (begins i e)) = absurd (n (ap (λ (a : Reading). a .outcome) e))
+    go (accepted (keeps d z l i e)) = absurd (n (ap (λ (a : Reading). a .outcome) e))
+
+-- no tick sees what is pending
+tick-pending : (a : Axis) (p : Pending) (t : Tick)
+    → (tickOf (withPending a p) t .axis ≡ withPending (tickOf a t .axis) p) × (tickOf (withPending a p) t .answer ≡ tickOf a t .answer)
+unfolding tickOf
+tick-pending a p t = go (a .active)
+  where
+    go : (x : Active) → (tickUnder x (withPending a p) t .axis ≡ withPending (tickUnder x a t .axis) p) × (tickUnder x (withPending a p) t .answer ≡ tickUnder x a t .answer)
+    go Nothing = (refl, refl)
+    go (Set s) = (refl, refl)
+
+pub unseen-from : Unseen
+unseen-from a p [] = refl
+unseen-from a p (t ∷ ts) =
+    let e = tick-pending a p t in
+    rw (e .0, e .1, unseen-from (tickOf a t .axis) p ts)
+
+pub refused-word : RefusedWords
+unfolding wordOf
+refused-word a w r e = record { left = left; unseen = λ ts. rw left (unseen-from a emptyPending ts) }
+  where
+    not-accepted : {X : Type 0} → verdict.Accepted ≡ verdict.Refused r → X
+    not-accepted q = let z : _≡_ {A = ℕ} 0 1 = cc in absurd (omega arith)
+
+    not-stored : readOf (a .pending) w .outcome ≡ Stored → ⊥
+    not-stored s = not-accepted (subst (λ (o : Outcome). taken (withPending a (readOf (a .pending) w .pending)) o .verdict ≡ verdict.Refused r) s e)
+
+    kept : (b : Axis) (o : Outcome) → taken b o .verdict ≡ verdict.Refused r → taken b o .axis ≡ b
+    kept b (Refused x) q = refl
+    kept b Stored q = refl
+    kept b (Complete s) q = go (liveOf (b .motion .state)) refl
+      where
+        go : (l : Bool) → liveOf (b .motion .state) ≡ l → taken b (Complete s) .axis ≡ b
+        go true h = rw h
+        go false h = not-accepted (rw h at q)
+
+    left : wordOf a w .axis ≡ withPending a emptyPending
+    left =
+        kept (withPending a (readOf (a .pending) w .pending)) (readOf (a .pending) w .outcome) e
+        ∙ ap (λ (p : Pending). withPending a p) (left-empty (a .pending) w not-stored)
+
+-- ---- a refused tick
+
+pub refused-tick : RefusedTicks
+unfolding tickOf answeredIn answerIn
+refused-tick a t n = go (a .active) refl
+  where
+    go : (x : Active) → a .active ≡ x → RefusedTick a t
+    go Nothing e = record { left = rw e; answer = rw e }
+    go (Set s) e = absurd (n (rw e))
+
+-- ---- the words of acceptable settings, with ticks between
+
+-- words that are stored, one after the other
+abbrev AllStored : Pending → List ℕ → Type 0
+AllStored p [] = Unit {0}
+AllStored p (w ∷ ws) = (readOf p w .outcome ≡ Stored) × AllStored (readOf p w .pending) ws
+
+-- words none of which is an end word
+abbrev NoEnd : List ℕ → Type 0
+NoEnd [] = Unit {0}
+NoEnd (w ∷ ws) = (kindOf w ≡ 15 → ⊥) × NoEnd ws
+
+no-end : (k : ℕ) (xs : List ℕ) → k + length xs ≤ 15 → Below xs → NoEnd (wordsFrom k xs)
+unfolding wordsFrom
+no-end k [] h b = tt
+no-end k (x ∷ xs) h b = (λ e. omega (arith, b .0), no-end (k + 1) xs (omega arith) (b .1))
+
+stores : (p : Pending) (w : ℕ) → outcomeNumber (readOf p w .outcome) ≡ 0 → (kindOf w ≡ 15 → ⊥) → readOf p w .outcome ≡ Stored
+unfolding checksumOf
+stores p w z n = go (accepted-by p w z)
+  where
+    go : AcceptedBy p w → readOf p w .outcome ≡ Stored
+    go (begins i e) = ap (λ (a : Reading). a .outcome) e
+    go (keeps d k l i e) = ap (λ (a : Reading). a .outcome) e
+    go (closes d i l e) = absurd (n (omega arith))
+
+-- the front of words that are read into settings is stored
+front-stored : {p : Pending} {ws : List ℕ} {s : Settings} → ReadInto p ws s → (us : List ℕ) (w : ℕ) → ws ≡ us ++ w ∷ [] → NoEnd us → AllStored p us
+front-stored r [] w q n = tt
+front-stored (last e) (u ∷ us) w q n = absurd (nothing us w (tail-eq-of-cons-eq q))
+  where
+    nothing : (us : List ℕ) (w : ℕ) → [] ≡ us ++ w ∷ [] → ⊥
+    nothing [] w q = nil≢cons q
+    nothing (u ∷ us) w q = nil≢cons q
+front-stored (more {p} {w = v} z r) (u ∷ us) w q n =
+    let h : v ≡ u = head-eq-of-cons-eq q in
+    let o : readOf p u .outcome ≡ Stored = stores p u (subst (λ (x : ℕ). outcomeNumber (readOf p x .outcome) ≡ 0) h z) (n .0) in
+    (o, subst (λ (x : ℕ). AllStored (readOf p x .pending) us) h (front-stored r us w (tail-eq-of-cons-eq q) (n .1)))
+
+tick-keeps : (a : Axis) (t : Tick) → tickOf a t .axis .pending ≡ a .pending
+unfolding tickOf
+tick-keeps a t = go (a .active)
+  where
+    go : (x : Active) → tickUnder x a t .axis .pending ≡ a .pending
+    go Nothing = refl
+    go (Set s) = refl
+
+-- events whose words are all stored: the pending settings are those that the words leave, and every word is accepted
+fed : (a : Axis) (es : List Event) → AllStored (a .pending) (wordsIn es)
+    → (axisFrom a es .pending ≡ pendingFrom (a .pending) (wordsIn es)) × AllAccepted (repliesFrom a es)
+unfolding wordOf
+fed a [] h = (refl, tt)
+fed a (word w ∷ es) h =
+    let b = withPending a (readOf (a .pending) w .pending) in
+    let t = fed b es (h .1) in
+    subst
+    (λ (o : Outcome).
+    (axisFrom (taken b o .axis) es .pending ≡ pendingFrom (a .pending) (w ∷ wordsIn es))
+    × ((taken b o .verdict ≡ verdict.Accepted) × AllAccepted (repliesFrom (taken b o .axis) es)))
+    (sym (h .0))
+    (t .0, (refl, t .1))
+fed a (tick t ∷ es) h =
+    let e : tickOf a t .axis .pending ≡ a .pending = tick-keeps a t in
+    let f = fed (tickOf a t .axis) es (subst (λ (p : Pending). AllStored p (wordsIn es)) (sym e) h) in
+    (f .0 ∙ ap (λ (p : Pending). pendingFrom p (wordsIn es)) e, f .1)
+
+axis-append : (a : Axis) (es fs : List Event) → axisFrom a (es ++ fs) ≡ axisFrom (axisFrom a es) fs
+axis-append a [] fs = refl
+axis-append a (e ∷ es) fs = axis-append (leftBy a e) es fs
+
+accepted-append : (a : Axis) (es : List Event) (w : ℕ) → AllAccepted (repliesFrom a es) → wordOf (axisFrom a es) w .verdict ≡ verdict.Accepted
+    → AllAccepted (repliesFrom a (es ++ word w ∷ []))
+accepted-append a [] w h e = (e, tt)
+accepted-append a (word v ∷ es) w h e = (h .0, accepted-append (wordOf a v .axis) es w (h .1) e)
+accepted-append a (tick t ∷ es) w h e = accepted-append (tickOf a t .axis) es w h e
+
+pub activates : RoundTrip
+unfolding wordsOf wordOf valuesOf
+activates a s es w ok e idle =
+    let front = wordsFrom 0 (valuesOf s) in
+    let r : ReadInto (a .pending) (wordsOf s) s = there s ok (a .pending) in
+    let i = snoc-inj (wordsIn es) front w (wordBy 15 (checksumOf (valuesOf s))) e in
+    let n : NoEnd (wordsIn es) = subst NoEnd (sym (i .0)) (no-end 0 (valuesOf s) (omega arith) (values-below s (passes s ok .range))) in
+    let f = fed a es (front-stored r (wordsIn es) w (sym e) n) in
+    let b = axisFrom a es in
+    let o : readOf (b .pending) w .outcome ≡ Complete s = subst (λ (p : Pending). readOf p w .outcome ≡ Complete s) (sym (f .0)) (last-completes r (wordsIn es) w (sym e)) in
+    let p : readOf (b .pending) w .pending ≡ emptyPending = left-empty (b .pending) w (λ q. unstored (sym o ∙ q)) in
+    let t : wordOf b w ≡ record { axis = activated s (withPending b emptyPending); verdict = verdict.Accepted } = rw (o, p, idle) in
+    record {
+      accepted = accepted-append a es w (f .1) (ap (λ (x : Worded). x .verdict) t);
+      left = axis-append a es (word w ∷ []) ∙ ap (λ (x : Worded). x .axis) t;
+    }
+  where
+    unstored : Complete s ≡ Stored → ⊥
+    unstored q = let z : _≡_ {A = ℕ} 0 1 = cc in omega arith
+
+-- ---- 7 and 8 in their cases, and in no other
+
+pub given-7 : Given7
+unfolding wordOf
+given-7 a w = (there-is, λ e. rw (e .closes, e .live))
+  where
+    b : Axis
+    b = withPending a (readOf (a .pending) w .pending)
+
+    not-accepted : {X : Type 0} → verdict.Accepted ≡ verdict.Refused DriveActive → X
+    not-accepted q = let z : _≡_ {A = ℕ} 0 1 = cc in absurd (omega arith)
+
+    go : (o : Outcome) → readOf (a .pending) w .outcome ≡ o → taken b o .verdict ≡ verdict.Refused DriveActive → EndsLive a w
+    go (Refused r) e q =
+        let n : r ≡ DriveActive = cc in
+        absurd (never-7 (a .pending) w (ap outcomeNumber e ∙ ap numberOf n))
+    go Stored e q = not-accepted q
+    go (Complete s) e q = live (liveOf (a .motion .state)) refl
+      where
+        live : (l : Bool) → liveOf (a .motion .state) ≡ l → EndsLive a w
+        live true h = record { settings = s; closes = e; live = h }
+        live false h = not-accepted (rw h at q)
+
+    there-is : wordOf a w .verdict ≡ verdict.Refused DriveActive → EndsLive a w
+    there-is q = go (readOf (a .pending) w .outcome) refl q
+
+pub given-8 : Given8
+unfolding tickOf answeredIn answerIn
+given-8 a t = (λ q. go (a .active) refl q, λ e. rw e)
+  where
+    go : (x : Active) → a .active ≡ x → tickUnder x a t .answer .number ≡ 8 → a .active ≡ Nothing
+    go Nothing e q = e
+    go (Set s) e q = absurd (omega arith)

@@ -1,0 +1,7 @@
+pub mod Events
+pub mod Replies
+pub mod Activation
+pub mod Known
+pub mod Demand
+pub mod Whole
+pub mod Examples

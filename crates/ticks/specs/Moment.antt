@@ -1,0 +1,83 @@
+-- 01, "A tick": mode, drive state, homing; then control word, switches and position are remembered.
+-- Assumes nothing.
+use Prim.Native.Nat.{ℕ}
+use mathlib.Core.Bool.{Bool, cond, not, _&&_, _||_}
+use lib.IntN.{ℤ}
+use Rattle.settings.specs.declared.Settings.{Settings}
+use Rattle.states.specs.declared.State.{State}
+use Rattle.states.specs.Alarm.{latchedOf}
+use Rattle.modes.specs.declared.Mode.{Mode}
+use Rattle.commands.specs.declared.Command.{Command}
+use Rattle.commands.specs.declared.Command.the-variants.{Hybrid, Homing, Position, Torque, Rest}
+use Rattle.legs.specs.declared.events.View.{View}
+use Rattle.homing.specs.declared.Phase.{Phase}
+use Rattle.homing.specs.Places.{startOf, stepOf, homedIn}
+use Rattle.position.specs.declared.Followed.{Followed}
+use Rattle.position.specs.declared.Followed.the-variants.{Nothing}
+use Rattle.position.specs.Position.{followedOf}
+use Rattle.motion.specs.declared.Motion.{Motion}
+use Rattle.ticks.specs.declared.Tick.{Tick}
+use Rattle.ticks.specs.declared.Moment.{Moment}
+use Rattle.ticks.specs.Rules.{modeAfter, matchedIn, demandIn, alarmIn, stateAfter, startsIn, viewOf}
+
+-- mode and drive state after a tick
+abbrev pub newMode : Motion → Tick → Mode
+newMode a t = modeAfter (a .mode) (a .state) t
+
+abbrev pub newState : Settings → Motion → Tick → State
+newState s a t = stateAfter s (a .state) (a .control) t
+
+-- the start tick, and what homing sees of any other
+abbrev pub starting : Settings → Motion → Tick → Bool
+starting s a t = startsIn (a .control) t (newMode a t) (newState s a t)
+
+abbrev pub newView : Settings → Motion → Tick → View
+newView s a t = viewOf (a .switches) (a .position) t (newMode a t) (newState s a t)
+
+-- "The start tick … picks a or c by HOM in that tick and counts no event"; a later tick is a step
+abbrev pub phaseAfter : Phase → ℕ → Bool → View → Phase
+phaseAfter phase method starting v = cond starting (startOf method (v .now .home)) (stepOf phase method v)
+
+unfoldable pub newPhase : Settings → Motion → Tick → Phase
+newPhase s a t = phaseAfter (a .phase) (s .method) (starting s a t) (newView s a t)
+
+-- "home is that tick's position": of the tick in which the axis becomes homed. A start under 35 homes anew, so home moves even if
+-- the axis was homed.
+abbrev pub homeAfter : ℤ → Bool → Bool → Bool → ℤ → ℤ
+homeAfter home starting before after position = cond (after && (starting || not before)) position home
+
+abbrev pub newHome : Settings → Motion → Tick → ℤ
+newHome s a t = homeAfter (a .home) (starting s a t) (homedIn (a .phase)) (homedIn (newPhase s a t)) (t .position)
+
+-- the target of a position command that is matched, enabled and homed
+abbrev pub targetOf : Command → Bool → State → Bool → Followed
+targetOf (Position target request) matched state homed = followedOf matched state homed target
+targetOf (Hybrid h) matched state homed = Nothing
+targetOf (Homing request) matched state homed = Nothing
+targetOf (Torque request) matched state homed = Nothing
+targetOf Rest matched state homed = Nothing
+
+-- "then control word, switches and position are remembered"
+abbrev pub motionAfter : Settings → Motion → Tick → Motion
+motionAfter s a t =
+    record {
+      state = newState s a t;
+      mode = newMode a t;
+      alarm = latchedOf (a .alarm) (a .state) (newState s a t) (alarmIn s t);
+      phase = newPhase s a t;
+      home = newHome s a t;
+      control = t .control;
+      switches = t .switches;
+      position = t .position;
+    }
+
+-- what a tick comes to
+abbrev pub momentOf : Settings → Motion → Tick → Moment
+momentOf s a t =
+    record {
+      motion = motionAfter s a t;
+      matched = matchedIn t (newMode a t);
+      demand = demandIn s t;
+      view = newView s a t;
+      followed = targetOf (t .command) (matchedIn t (newMode a t)) (newState s a t) (homedIn (newPhase s a t));
+    }

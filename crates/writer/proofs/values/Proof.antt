@@ -1,0 +1,61 @@
+-- `words::writer::values` meets its contract.
+-- Assumes nothing.
+use Rattle.words.proofs.Bits.{position-fits}
+use mir.Facts.{toZ-ofZ}
+use Rattle.settings.proofs.Within.{within}
+use Rattle.words.specs.Encode.{valuesOf}
+use borrow.Author.Needs.{needs}
+use Rattle.writer.proofs.values.Statement.{statement}
+use Rattle.writer.proofs.values.Tie as tie
+
+low-requires : tie.Need-low-requires
+low-requires c κs = search needs
+
+low-requires-2 : tie.Need-low-requires-2
+low-requires-2 c κs = search needs
+
+low-requires-3 : tie.Need-low-requires-3
+low-requires-3 c κs = search needs
+
+limit-set-requires : tie.Need-limit-set-requires
+limit-set-requires c κs =
+    let b = c .before .before .before .before .before .before in
+    let w = within (b .args .s) (b .pre) in
+    search needs
+
+limit-set-requires-2 : tie.Need-limit-set-requires-2
+limit-set-requires-2 c κs =
+    let b = c .before .before .before .before .before .before .before in
+    let w = within (b .args .s) (b .pre) in
+    search needs
+
+returns : tie.Need-returns
+unfolding valuesOf
+returns c =
+    let t = c .before .before in
+    let m = t .before .before in
+    let f = m .before .before in
+    let b = f .before .before in
+    let s = b .args .s in
+    let w = within s (b .pre) in
+    rw (
+      f .low .ensures,
+      m .low2 .ensures,
+      t .low3 .ensures,
+      c .before .limit-set .ensures,
+      c .limit-set2 .ensures,
+      toZ-ofZ (position-fits (s .offset) (w .offset)),
+      toZ-ofZ (position-fits (s .lower) (w .lower)),
+      toZ-ofZ (position-fits (s .upper) (w .upper)),
+    )
+
+pub values-spec : {M : Type 1} → statement M
+values-spec =
+    tie.close
+    (tie.spec
+    low-requires
+    low-requires-2
+    low-requires-3
+    limit-set-requires
+    limit-set-requires-2
+    returns)
