@@ -73,10 +73,8 @@ pub fn event_counts(leg: Leg, view: View) -> bool
     let switch = leg.switch;
     let edge = leg.edge;
     let movement = view.movement;
-    let before = view.before;
-    let now = view.now;
-    let was = awaited(switch, leg.forward, before);
-    let is = awaited(switch, leg.forward, now);
+    let was = awaited(switch, leg.forward, view.before);
+    let is = awaited(switch, leg.forward, view.now);
     let met = edge_met(edge, was, is);
     let moved = along_leg(leg.forward, movement);
     !view.halted & ((!leg.moving | moved) & met)
@@ -86,9 +84,7 @@ pub fn event_counts(leg: Leg, view: View) -> bool
 pub fn limit_counts(leg: Leg, view: View) -> bool
     ensures { λ r. ⌜ r ≡ limitCounts leg view ⌝ }
 {
-    let before = view.before;
-    let now = view.now;
-    let was = limit_ahead(leg.forward, before);
-    let is = limit_ahead(leg.forward, now);
+    let was = limit_ahead(leg.forward, view.before);
+    let is = limit_ahead(leg.forward, view.now);
     !view.halted & (!was & is)
 }

@@ -84,9 +84,27 @@ fn leg_in(digit: u64) -> Found
     let forward = digit / 4 % 2 == 1;
     let fast = digit / 8 % 2 == 1;
     match digit % 4 {
-        1 => Found::Leg(Leg { forward, fast, switch: Switch::Home, edge: Edge::Rise, moving: true }),
-        2 => Found::Leg(Leg { forward, fast, switch: Switch::Home, edge: Edge::Drop, moving: true }),
-        3 => Found::Leg(Leg { forward, fast, switch: Switch::Index, edge: Edge::Rise, moving: true }),
+        1 => Found::Leg(Leg {
+            forward,
+            fast,
+            switch: Switch::Home,
+            edge: Edge::Rise,
+            moving: true,
+        }),
+        2 => Found::Leg(Leg {
+            forward,
+            fast,
+            switch: Switch::Home,
+            edge: Edge::Drop,
+            moving: true,
+        }),
+        3 => Found::Leg(Leg {
+            forward,
+            fast,
+            switch: Switch::Index,
+            edge: Edge::Rise,
+            moving: true,
+        }),
         _ => Found::Nothing,
     }
 }
