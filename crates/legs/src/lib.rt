@@ -37,47 +37,27 @@ pub const TURN: u32 = 4;
 
 pub const ON_HOME: u32 = 8;
 
-// A method's row, one hexadecimal digit a leg: 1 R, 2 D, 3 Z, and 4 more if forward, 8 more if fast; 0 is an empty place.
-const ROW_23: u64 = 0xd200_9620_2000; // +F R, -S D; -F R, +S D, -S D; -S D
-
-const ROW_24: u64 = 0xd250_a500_2500; // +F R, -S D, +S R; -F D, +S R; -S D, +S R
-
-const ROW_25: u64 = 0xe100_9610_6100; // +F D, -S R; -F R, +S D, -S R; +S D, -S R
-
-const ROW_26: u64 = 0xd260_9600_6000; // +F R, -S D, +S D; -F R, +S D; +S D
-
-const ROW_27: u64 = 0x9600_d260_6000; // the same with signs turned
-
-const ROW_28: u64 = 0x9610_e100_6100;
-
-const ROW_29: u64 = 0xa500_d250_2500;
-
-const ROW_30: u64 = 0x9620_d200_2000;
-
-const ROW_33: u64 = 0x3000_0000_3000; // -S Z
-
-const ROW_34: u64 = 0x7000_0000_7000; // +S Z
-
+// A method's row, a hexadecimal digit for each place: 1 R, 2 D, 3 Z, and 4 more if forward, 8 more if fast; 0 is an empty place.
 // 35 and a number that is no method have no leg.
 fn row_of(method: u32) -> u64
     ensures { λ r. ⌜ r ≡ rowDigits method ⌝ }
 {
     match method {
-        23 => ROW_23,
-        24 => ROW_24,
-        25 => ROW_25,
-        26 => ROW_26,
-        27 => ROW_27,
-        28 => ROW_28,
-        29 => ROW_29,
-        30 => ROW_30,
-        33 => ROW_33,
-        34 => ROW_34,
+        23 => 0xd200_9620_2000, // +F R, -S D; -F R, +S D, -S D; -S D
+        24 => 0xd250_a500_2500, // +F R, -S D, +S R; -F D, +S R; -S D, +S R
+        25 => 0xe100_9610_6100, // +F D, -S R; -F R, +S D, -S R; +S D, -S R
+        26 => 0xd260_9600_6000, // +F R, -S D, +S D; -F R, +S D; +S D
+        27 => 0x9600_d260_6000, // 23 with signs turned
+        28 => 0x9610_e100_6100,
+        29 => 0xa500_d250_2500,
+        30 => 0x9620_d200_2000,
+        33 => 0x3000_0000_3000, // -S Z
+        34 => 0x7000_0000_7000, // +S Z
         _ => 0,
     }
 }
 
-// The leg in a digit.
+// The leg that a digit holds.
 fn leg_in(digit: u64) -> Found
     ensures { λ r. ⌜ r ≡ legInDigit digit ⌝ }
 {
