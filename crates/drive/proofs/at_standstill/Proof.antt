@@ -1,6 +1,5 @@
 -- `drive::at_standstill` meets its contract: each path settles the definition's tests.
 -- Assumes nothing.
-use borrow.Author.Needs.{needs}
 use borrow.Author.Tests.{ne-eqb}
 use Rattle.drive.proofs.at_standstill.Statement.{statement}
 use Rattle.drive.proofs.at_standstill.Tie as tie
@@ -18,7 +17,7 @@ returns-4 : tie.Need-returns-4
 returns-4 c = let r = c .match .rest in rw (c .before .if1 .taken, ne-eqb _ 2 (r .0 .1), ne-eqb _ 6 (r .1))
 
 returns-5 : tie.Need-returns-5
-returns-5 c = search needs
+returns-5 c = rw (c .if1 .left)
 
 pub at-standstill-spec : {M : Type 1} → statement M
 at-standstill-spec = tie.close (tie.spec returns returns-2 returns-3 returns-4 returns-5)
