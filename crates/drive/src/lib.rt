@@ -3,7 +3,7 @@ use states::State;
 ghost use mathlib.Core.Path.{_≡_};
 ghost use mathlib.Core.Bool.{cond};
 ghost use Rattle.drive.specs.Control.{controlCommandOf};
-ghost use Rattle.drive.specs.Transitions.{commandNumber, asks, fromState, bullets, standstillOf, quickStopOf, quietOf, settled, rises, nextOf};
+ghost use Rattle.drive.specs.Transitions.{fromState, bullets, standstillOf, quickStopOf, quietOf, settled, rises, nextOf};
 
 // What a control word asks of the drive; nothing where its bit 7, fault reset, is set.
 pub enum ControlCommand {
@@ -18,18 +18,13 @@ pub enum ControlCommand {
 pub fn control_command(control: u16) -> ControlCommand
     ensures { λ r. ⌜ r ≡ controlCommandOf control ⌝ }
 {
-    let reset = counts::bit(control, 7);
-    let voltage = counts::bit(control, 1);
-    let running = counts::bit(control, 2);
-    let on = counts::bit(control, 0);
-    let enable = counts::bit(control, 3);
-    if reset {
+    if counts::bit(control, 7) {
         return ControlCommand::Nothing;
     }
-    if voltage {
-        if running {
-            if on {
-                if enable {
+    if counts::bit(control, 1) {
+        if counts::bit(control, 2) {
+            if counts::bit(control, 0) {
+                if counts::bit(control, 3) {
                     ControlCommand::EnableOperation
                 } else {
                     ControlCommand::SwitchOn
@@ -49,12 +44,8 @@ fn from_disabled(command: ControlCommand) -> State
     ensures { λ r. ⌜ r ≡ fromState State.SwitchOnDisabled command bullets ⌝ }
 {
     match command {
-        ControlCommand::Nothing => State::SwitchOnDisabled,
-        ControlCommand::DisableVoltage => State::SwitchOnDisabled,
-        ControlCommand::QuickStop => State::SwitchOnDisabled,
         ControlCommand::Shutdown => State::Ready,
-        ControlCommand::SwitchOn => State::SwitchOnDisabled,
-        ControlCommand::EnableOperation => State::SwitchOnDisabled,
+        _ => State::SwitchOnDisabled,
     }
 }
 
@@ -62,12 +53,9 @@ fn from_ready(command: ControlCommand) -> State
     ensures { λ r. ⌜ r ≡ fromState State.Ready command bullets ⌝ }
 {
     match command {
-        ControlCommand::Nothing => State::Ready,
-        ControlCommand::DisableVoltage => State::SwitchOnDisabled,
-        ControlCommand::QuickStop => State::SwitchOnDisabled,
-        ControlCommand::Shutdown => State::Ready,
-        ControlCommand::SwitchOn => State::SwitchedOn,
-        ControlCommand::EnableOperation => State::SwitchedOn,
+        ControlCommand::SwitchOn | ControlCommand::EnableOperation => State::SwitchedOn,
+        ControlCommand::DisableVoltage | ControlCommand::QuickStop => State::SwitchOnDisabled,
+        _ => State::Ready,
     }
 }
 
@@ -75,12 +63,10 @@ fn from_switched_on(command: ControlCommand) -> State
     ensures { λ r. ⌜ r ≡ fromState State.SwitchedOn command bullets ⌝ }
 {
     match command {
-        ControlCommand::Nothing => State::SwitchedOn,
-        ControlCommand::DisableVoltage => State::SwitchOnDisabled,
-        ControlCommand::QuickStop => State::SwitchOnDisabled,
-        ControlCommand::Shutdown => State::Ready,
-        ControlCommand::SwitchOn => State::SwitchedOn,
         ControlCommand::EnableOperation => State::OperationEnabled,
+        ControlCommand::Shutdown => State::Ready,
+        ControlCommand::DisableVoltage | ControlCommand::QuickStop => State::SwitchOnDisabled,
+        _ => State::SwitchedOn,
     }
 }
 
@@ -88,27 +74,29 @@ fn from_enabled(command: ControlCommand) -> State
     ensures { λ r. ⌜ r ≡ fromState State.OperationEnabled command bullets ⌝ }
 {
     match command {
-        ControlCommand::Nothing => State::OperationEnabled,
+        ControlCommand::SwitchOn => State::SwitchedOn,
+        ControlCommand::Shutdown => State::Ready,
         ControlCommand::DisableVoltage => State::SwitchOnDisabled,
         ControlCommand::QuickStop => State::QuickStopActive,
-        ControlCommand::Shutdown => State::Ready,
-        ControlCommand::SwitchOn => State::SwitchedOn,
-        ControlCommand::EnableOperation => State::OperationEnabled,
+        _ => State::OperationEnabled,
     }
 }
 
-// At standstill: option 2 leaves by itself, option 6 goes on where the command is to enable.
-fn at_standstill(option: u32, enable: bool) -> State
-    ensures { λ r. ⌜ r ≡ standstillOf option enable ⌝ }
+// Quick stop is left at standstill alone: by itself under option 2, by the command to enable under option 6.
+fn at_standstill(still: bool, option: u32, enable: bool) -> State
+    ensures { λ r. ⌜ r ≡ cond still (standstillOf option enable) State.QuickStopActive ⌝ }
 {
-    if option == 2 {
-        return State::SwitchOnDisabled;
-    }
-    if option == 6 {
-        if enable {
-            State::OperationEnabled
-        } else {
-            State::QuickStopActive
+    if still {
+        match option {
+            2 => State::SwitchOnDisabled,
+            6 => {
+                if enable {
+                    State::OperationEnabled
+                } else {
+                    State::QuickStopActive
+                }
+            }
+            _ => State::QuickStopActive,
         }
     } else {
         State::QuickStopActive
@@ -118,33 +106,10 @@ fn at_standstill(option: u32, enable: bool) -> State
 fn from_quick_stop(command: ControlCommand, still: bool, option: u32) -> State
     ensures { λ r. ⌜ r ≡ quickStopOf command still option ⌝ }
 {
-    let enable = asks_for(command, ControlCommand::EnableOperation);
-    if asks_for(command, ControlCommand::DisableVoltage) {
-        return State::SwitchOnDisabled;
-    }
-    if still {
-        at_standstill(option, enable)
-    } else {
-        State::QuickStopActive
-    }
-}
-
-fn asks_for(command: ControlCommand, other: ControlCommand) -> bool
-    ensures { λ r. ⌜ r ≡ asks command other ⌝ }
-{
-    command_number(command) == command_number(other)
-}
-
-fn command_number(command: ControlCommand) -> u32
-    ensures { λ r. ⌜ r ≡ commandNumber command ⌝ }
-{
     match command {
-        ControlCommand::Nothing => 0,
-        ControlCommand::DisableVoltage => 1,
-        ControlCommand::QuickStop => 2,
-        ControlCommand::Shutdown => 3,
-        ControlCommand::SwitchOn => 4,
-        ControlCommand::EnableOperation => 5,
+        ControlCommand::DisableVoltage => State::SwitchOnDisabled,
+        ControlCommand::EnableOperation => at_standstill(still, option, true),
+        _ => at_standstill(still, option, false),
     }
 }
 
@@ -164,38 +129,20 @@ fn quiet(state: State, command: ControlCommand, still: bool, option: u32) -> Sta
     }
 }
 
-// Fault is left by a rise of bit 7 without alarm.
-fn from_fault(reset: bool, alarm: bool) -> State
-    ensures { λ r. ⌜ r ≡ settled State.Fault alarm reset State.Fault ⌝ }
-{
-    if alarm {
-        return State::Fault;
-    }
-    if reset {
-        State::SwitchOnDisabled
-    } else {
-        State::Fault
-    }
-}
-
-fn pick(alarm: bool, quiet: State) -> State
-    ensures { λ r. ⌜ r ≡ cond alarm State.FaultReaction quiet ⌝ }
-{
-    if alarm { State::FaultReaction } else { quiet }
-}
-
+// An alarm goes first, but not in the fault states; Fault is left by a rise of bit 7 without alarm.
 fn settle(state: State, alarm: bool, reset: bool, quiet: State) -> State
     ensures { λ r. ⌜ r ≡ settled state alarm reset quiet ⌝ }
 {
     match state {
-        State::NotReady => pick(alarm, quiet),
-        State::SwitchOnDisabled => pick(alarm, quiet),
-        State::Ready => pick(alarm, quiet),
-        State::SwitchedOn => pick(alarm, quiet),
-        State::OperationEnabled => pick(alarm, quiet),
-        State::QuickStopActive => pick(alarm, quiet),
         State::FaultReaction => State::Fault,
-        State::Fault => from_fault(reset, alarm),
+        State::Fault => {
+            if reset & !alarm {
+                State::SwitchOnDisabled
+            } else {
+                State::Fault
+            }
+        }
+        _ => { if alarm { State::FaultReaction } else { quiet } }
     }
 }
 

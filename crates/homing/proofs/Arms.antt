@@ -14,8 +14,7 @@ use Rattle.legs.specs.Events.{eventCounts, limitCounts}
 use Rattle.legs.specs.Routes.{Row, rowOf}
 use Rattle.legs.specs.Places.{legAt}
 use Rattle.homing.specs.Places.{entered, limitAt, runningOf, startIn, startOf}
-use Rattle.legs.specs.Bytes.{between}
-use Rattle.legs.proofs.Rows.{known, isRow, turn-rule, known-rule, unknown}
+use Rattle.legs.proofs.Rows.{between, known, isRow, turn-rule, known-rule, unknown}
 
 module _ (m p : ℕ) where
   -- a limit turns, comes in a later leg, or in a method with no route b

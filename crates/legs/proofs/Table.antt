@@ -1,23 +1,22 @@
--- The rule of the code's table: each leg that the code picks out of its bytes is the one that the routes have there. One computed test over
+-- The rule of the code's table: each leg that the code picks out of its digits is the one that the routes have there. One computed test over
 -- the whole table, and the law of `Computed`.
 -- Assumes nothing.
 use mathlib.Core.Path.{_≡_, refl, _∙_}
 use mathlib.Core.Bool.{Bool, true, false}
-use mathlib.Core.List.{[]}
 use mathlib.Core.Option.{Option, none, some}
-use Prim.Native.Nat.{ℕ, _+_, _-_, _*_, _/_, _%_, _≤_, _<_}
+use Prim.Native.Nat.{ℕ, _+_, _-_, _*_, _/_, _%_, _^_, _≤_, _<_}
 use native.Mathlib.Omega.{arith}
 use lib.Dec.{ltb}
-use lib.ListN.{getD, List·getD-eq-default}
+use lib.ListN.{List·getD-eq-default}
 use borrow.Author.Tests.{ltb-true, ltb-false}
 use Rattle.legs.specs.declared.Leg.{Leg}
 use Rattle.legs.specs.declared.Found.{Found}
 use Rattle.legs.specs.declared.Found.the-variants as found
 use Rattle.legs.specs.Routes.{Row, rowOf}
 use Rattle.legs.specs.Places.{placesOf, legIn, legAt}
-use Rattle.legs.specs.Bytes.{bytes, switchIn, edgeIn, decoded, between, rowNumber}
+use Rattle.legs.specs.Digits.{rowDigits, legInDigit}
 use Rattle.legs.proofs.Computed.{listed, agree}
-use Rattle.legs.proofs.Rows.{under, over, known, below-all, above-all, unknown}
+use Rattle.legs.proofs.Rows.{known, below-all, above-all, unknown}
 
 -- past a row's places
 pub past : (m p : ℕ) → 12 ≤ p → legAt m p ≡ found.Nothing
@@ -42,11 +41,11 @@ no-leg m p k = rw (unknown m k)
 
 -- the leg that the code picks out of its table
 abbrev pub picked : ℕ → ℕ → Found
-picked m p = decoded (getD (getD bytes (rowNumber m) []) p 0) (between 27 30 m)
+picked m p = legInDigit (rowDigits m / 2 ^ (44 - 4 * p) % 16)
 
 -- it is the method's, at each of twelve places for each of the numbers 23 to 35
 entries : listed (λ n. picked (23 + n / 12) (n % 12)) 0 156 ≡ listed (λ n. legAt (23 + n / 12) (n % 12)) 0 156
-unfolding bytes rowOf legAt decoded switchIn edgeIn rowNumber
+unfolding rowOf legAt rowDigits legInDigit
 entries = refl
 
 inside : (m p : ℕ) → 23 ≤ m → m < 36 → p < 12 → picked m p ≡ legAt m p
@@ -57,22 +56,19 @@ inside m p h k l =
     let r : n % 12 ≡ p = omega arith in
     rw (q, r) at e
 
--- 31 stands for every number that is no method: they share a row
-outside : (m p : ℕ) → known m ≡ false → rowNumber m ≡ 6 → between 27 30 m ≡ false → p < 12 → picked m p ≡ legAt m p
-unfolding rowNumber
-outside m p u q t l = rw (q, t, no-leg m p u) (inside 31 p (omega arith) (omega arith) l ∙ no-leg 31 p refl)
+-- every number that is no method is as 31
+empty : (p : ℕ) → p < 12 → legInDigit (0 / 2 ^ (44 - 4 * p) % 16) ≡ found.Nothing
+unfolding rowOf rowDigits legAt
+empty p l = inside 31 p (omega arith) (omega arith) l
+
+outside : (m p : ℕ) → known m ≡ false → p < 12 → picked m p ≡ legAt m p
+unfolding rowDigits legAt
+outside m p u l = rw (unknown m u) (empty p l)
 
 pub leg-rule : (m p : ℕ) → p < 12 → picked m p ≡ legAt m p
-unfolding rowNumber
 leg-rule m p l = go (ltb m 23) (ltb m 36) refl refl
   where
     go : (a b : Bool) → ltb m 23 ≡ a → ltb m 36 ≡ b → picked m p ≡ legAt m p
-    go true b e f =
-        let h = ltb-true m 23 e in
-        outside m p (below-all m h) (rw (under 23 26 m h, under 27 30 m (omega arith), under 33 34 m (omega arith))) (under 27 30 m (omega arith)) l
+    go true b e f = outside m p (below-all m (ltb-true m 23 e)) l
     go false true e f = inside m p (ltb-false m 23 e) (ltb-true m 36 f) l
-    go false false e f =
-        let h = ltb-false m 36 f in
-        outside m p (above-all m (omega arith))
-        (rw (over 23 26 m (omega arith) (omega arith), over 27 30 m (omega arith) (omega arith), over 33 34 m (omega arith) (omega arith)))
-        (over 27 30 m (omega arith) (omega arith)) l
+    go false false e f = let h = ltb-false m 36 f in outside m p (above-all m (omega arith)) l

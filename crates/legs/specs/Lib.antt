@@ -1,4 +1,4 @@
 pub mod Events
 pub mod Routes
 pub mod Places
-pub mod Bytes
+pub mod Digits

@@ -4,7 +4,7 @@ use crate::Leg;
 use crate::Switch;
 use counts::Movement;
 ghost use mathlib.Core.Path.{_≡_};
-ghost use Rattle.legs.specs.Events.{along, edgeOf, limitAhead, switchOf, eventCounts, limitCounts};
+ghost use Rattle.legs.specs.Events.{along, edgeOf, switchOf, eventCounts, limitCounts};
 
 // The four switches (01: POT, NOT, HOM, Z).
 pub struct Switches {
@@ -35,34 +35,32 @@ fn along_leg(forward: bool, movement: Movement) -> bool
     }
 }
 
-fn edge_met(edge: Edge, before: bool, now: bool) -> bool
-    ensures { λ r. ⌜ r ≡ edgeOf edge before now ⌝ }
-{
-    match edge {
-        Edge::Rise => !before & now,
-        Edge::Drop => !now & before,
-    }
-}
-
-// The limit switch in travel direction.
-fn limit_ahead(forward: bool, switches: Switches) -> bool
-    ensures { λ r. ⌜ r ≡ limitAhead forward switches ⌝ }
-{
-    if forward {
-        switches.positive
-    } else {
-        switches.negative
-    }
-}
-
-// The switch that a leg awaits.
-fn awaited(switch: Switch, forward: bool, switches: Switches) -> bool
+// A switch; the limit ahead is the one in travel direction.
+fn switch_at(switch: Switch, forward: bool, switches: Switches) -> bool
     ensures { λ r. ⌜ r ≡ switchOf switch forward switches ⌝ }
 {
     match switch {
         Switch::Home => switches.home,
         Switch::Index => switches.index,
-        Switch::LimitAhead => limit_ahead(forward, switches),
+        Switch::LimitAhead => {
+            if forward {
+                switches.positive
+            } else {
+                switches.negative
+            }
+        }
+    }
+}
+
+// Whether a switch has the edge, compared with the remembered one.
+fn edge_seen(switch: Switch, edge: Edge, forward: bool, view: View) -> bool
+    ensures { λ r. ⌜ r ≡ edgeOf edge (switchOf switch forward (view .before)) (switchOf switch forward (view .now)) ⌝ }
+{
+    let was = switch_at(switch, forward, view.before);
+    let is = switch_at(switch, forward, view.now);
+    match edge {
+        Edge::Rise => !was & is,
+        Edge::Drop => !is & was,
     }
 }
 
@@ -73,22 +71,15 @@ pub fn event_counts(leg: Leg, view: View) -> bool
     let switch = leg.switch;
     let edge = leg.edge;
     let movement = view.movement;
-    let before = view.before;
-    let now = view.now;
-    let was = awaited(switch, leg.forward, before);
-    let is = awaited(switch, leg.forward, now);
-    let met = edge_met(edge, was, is);
+    let seen = edge_seen(switch, edge, leg.forward, view);
     let moved = along_leg(leg.forward, movement);
-    !view.halted & ((!leg.moving | moved) & met)
+    !view.halted & ((!leg.moving | moved) & seen)
 }
 
 // Whether the limit in the leg's direction rises, with or without movement.
 pub fn limit_counts(leg: Leg, view: View) -> bool
     ensures { λ r. ⌜ r ≡ limitCounts leg view ⌝ }
 {
-    let before = view.before;
-    let now = view.now;
-    let was = limit_ahead(leg.forward, before);
-    let is = limit_ahead(leg.forward, now);
-    !view.halted & (!was & is)
+    let risen = edge_seen(Switch::LimitAhead, Edge::Rise, leg.forward, view);
+    !view.halted & risen
 }

@@ -1,8 +1,8 @@
--- `drive::control_command` meets its contract: its five bits are the definition's.
+-- `drive::control_command` meets its contract: each path settles the definition's tests, in its order.
 -- Assumes nothing.
-use mathlib.Core.Path.{_≡_}
-use mathlib.Core.Bool.{cond}
-use Rattle.drive.specs.declared.ControlCommand.the-variants.{Nothing, DisableVoltage, QuickStop, Shutdown, SwitchOn, EnableOperation}
+use mathlib.Core.Path.{_≡_, sym, _∙_}
+use mathlib.Core.Bool.{true, false}
+use Rattle.counts.specs.Bit.{bitOf}
 use Rattle.drive.specs.Control.{controlCommandOf}
 use borrow.Author.Needs.{needs}
 use Rattle.drive.proofs.control_command.Statement.{statement}
@@ -23,53 +23,64 @@ bit-requires-4 c κs = search needs
 bit-requires-5 : tie.Need-bit-requires-5
 bit-requires-5 c κs = search needs
 
--- the definition, over the bits that were read
-decoded : (b : tie.After-bit5)
-    → controlCommandOf (b .before .before .before .before .before .args .control)
-    ≡ cond (b .before .before .before .before .bit .result) Nothing
-    (cond (b .before .before .before .bit2 .result)
-    (cond (b .before .before .bit3 .result)
-    (cond (b .before .bit4 .result) (cond (b .bit5 .result) EnableOperation SwitchOn) Shutdown)
-    QuickStop)
-    DisableVoltage)
-unfolding controlCommandOf
-decoded b =
-    rw (
-      b .before .before .before .before .bit .ensures,
-      b .before .before .before .bit2 .ensures,
-      b .before .before .bit3 .ensures,
-      b .before .bit4 .ensures,
-      b .bit5 .ensures,
-    )
-
 returns : tie.Need-returns
-returns c = rw (decoded (c .before), c .if1 .taken)
+unfolding controlCommandOf
+returns c = rw (sym (c .before .bit .ensures) ∙ c .if1 .taken)
+
+-- what the paths share: bit 7 is clear, then bits 1, 2 and 0 are set
+clear-7 : (c : tie.Else1) → bitOf (c .before .before .args .control) 7 ≡ false
+clear-7 c = sym (c .before .bit .ensures) ∙ c .if1 .left
+
+set-1 : (c : tie.Then2) → bitOf (c .before .before .before .before .args .control) 1 ≡ true
+set-1 c = sym (c .before .bit2 .ensures) ∙ c .if2 .taken
+
+set-2 : (c : tie.Then3) → bitOf (c .before .before .before .before .before .before .args .control) 2 ≡ true
+set-2 c = sym (c .before .bit3 .ensures) ∙ c .if3 .taken
+
+set-0 : (c : tie.Then4) → bitOf (c .before .before .before .before .before .before .before .before .args .control) 0 ≡ true
+set-0 c = sym (c .before .bit4 .ensures) ∙ c .if4 .taken
 
 returns-2 : tie.Need-returns-2
-returns-2 c = let t = c .before .before .before in rw (decoded (t .before .before), t .before .if1 .left, t .if2 .taken, c .before .before .if3 .taken, c .before .if4 .taken, c .if5 .taken)
+unfolding controlCommandOf
+returns-2 c =
+    let on = c .before .before in
+    let running = on .before .before in
+    let voltage = running .before .before in
+    rw (clear-7 (voltage .before .before), set-1 voltage, set-2 running, set-0 on, sym (c .before .bit5 .ensures) ∙ c .if5 .taken)
 
 returns-3 : tie.Need-returns-3
-returns-3 c = let t = c .before .before .before in rw (decoded (t .before .before), t .before .if1 .left, t .if2 .taken, c .before .before .if3 .taken, c .before .if4 .taken, c .if5 .left)
+unfolding controlCommandOf
+returns-3 c =
+    let on = c .before .before in
+    let running = on .before .before in
+    let voltage = running .before .before in
+    rw (clear-7 (voltage .before .before), set-1 voltage, set-2 running, set-0 on, sym (c .before .bit5 .ensures) ∙ c .if5 .left)
 
 returns-4 : tie.Need-returns-4
-returns-4 c = let t = c .before .before in rw (decoded (t .before .before), t .before .if1 .left, t .if2 .taken, c .before .if3 .taken, c .if4 .left)
+unfolding controlCommandOf
+returns-4 c =
+    let running = c .before .before in
+    let voltage = running .before .before in
+    rw (clear-7 (voltage .before .before), set-1 voltage, set-2 running, sym (c .before .bit4 .ensures) ∙ c .if4 .left)
 
 returns-5 : tie.Need-returns-5
-returns-5 c = let t = c .before in rw (decoded (t .before .before), t .before .if1 .left, t .if2 .taken, c .if3 .left)
+unfolding controlCommandOf
+returns-5 c = let voltage = c .before .before in rw (clear-7 (voltage .before .before), set-1 voltage, sym (c .before .bit3 .ensures) ∙ c .if3 .left)
 
 returns-6 : tie.Need-returns-6
-returns-6 c = rw (decoded (c .before .before), c .before .if1 .left, c .if2 .left)
+unfolding controlCommandOf
+returns-6 c = rw (clear-7 (c .before .before), sym (c .before .bit2 .ensures) ∙ c .if2 .left)
 
 pub control-command-spec : {M : Type 1} → statement M
 control-command-spec =
     tie.close
     (tie.spec
     bit-requires
+    returns
     bit-requires-2
     bit-requires-3
     bit-requires-4
     bit-requires-5
-    returns
     returns-2
     returns-3
     returns-4

@@ -1,58 +1,22 @@
--- `drive::from_disabled` meets its contract: each arm computes in the table.
+-- `drive::from_disabled` meets its contract: each arm has the bullets' answer.
 -- Assumes nothing.
+use mathlib.Core.Path.{refl}
+use mathlib.Core.List.{[], _∷_}
 use borrow.Author.Needs.{needs}
+use Rattle.states.specs.declared.State.the-variants.{SwitchOnDisabled, Ready}
+use Rattle.drive.specs.Transitions.{fromState, bullets}
+use Rattle.drive.proofs.Arms.{command-arm}
 use Rattle.drive.proofs.from_disabled.Statement.{statement}
 use Rattle.drive.proofs.from_disabled.Tie as tie
 
 enum-told : tie.Need-enum-told
 enum-told c = search needs
 
-enum-told-2 : tie.Need-enum-told-2
-enum-told-2 c = search needs
-
-enum-told-3 : tie.Need-enum-told-3
-enum-told-3 c = search needs
-
-enum-told-4 : tie.Need-enum-told-4
-enum-told-4 c = search needs
-
-enum-told-5 : tie.Need-enum-told-5
-enum-told-5 c = search needs
-
-enum-told-6 : tie.Need-enum-told-6
-enum-told-6 c = search needs
-
 returns : tie.Need-returns
-returns c = rw (c .enum-told .given .1)
+returns c = command-arm (λ x. fromState SwitchOnDisabled x bullets) Ready (c .before .before .args .command) (3 ∷ []) (c .before .match .keys1) refl
 
 returns-2 : tie.Need-returns-2
-returns-2 c = rw (c .enum-told2 .given .1)
-
-returns-3 : tie.Need-returns-3
-returns-3 c = rw (c .enum-told3 .given .1)
-
-returns-4 : tie.Need-returns-4
-returns-4 c = rw (c .enum-told4 .given .1)
-
-returns-5 : tie.Need-returns-5
-returns-5 c = rw (c .enum-told5 .given .1)
-
-returns-6 : tie.Need-returns-6
-returns-6 c = rw (c .enum-told6 .given .1)
+returns-2 c = command-arm (λ x. fromState SwitchOnDisabled x bullets) SwitchOnDisabled (c .before .args .command) (0 ∷ 1 ∷ 2 ∷ 4 ∷ 5 ∷ []) (c .match .keys2) refl
 
 pub from-disabled-spec : {M : Type 1} → statement M
-from-disabled-spec =
-    tie.close
-    (tie.spec
-    enum-told
-    enum-told-2
-    enum-told-3
-    enum-told-4
-    enum-told-5
-    enum-told-6
-    returns
-    returns-2
-    returns-3
-    returns-4
-    returns-5
-    returns-6)
+from-disabled-spec = tie.close (tie.spec enum-told returns returns-2)

@@ -1,4 +1,4 @@
--- `drive::rising` meets its contract.
+-- `drive::rising` meets its contract: its two bits are the definition's.
 -- Assumes nothing.
 use borrow.Author.Needs.{needs}
 use Rattle.drive.proofs.rising.Statement.{statement}
@@ -11,7 +11,7 @@ bit-requires-2 : tie.Need-bit-requires-2
 bit-requires-2 c κs = search needs
 
 returns : tie.Need-returns
-returns c = cc
+returns c = rw (c .before .bit .ensures, c .bit2 .ensures)
 
 pub rising-spec : {M : Type 1} → statement M
 rising-spec = tie.close (tie.spec bit-requires bit-requires-2 returns)

@@ -1,4 +1,4 @@
--- `homing::legs::leg_at` meets its contract, by the table's rule.
+-- `legs::leg_at` meets its contract, by the table's rule.
 -- Assumes nothing.
 use mathlib.Core.Path.{sym, _∙_}
 use borrow.Author.Needs.{needs}
@@ -9,22 +9,29 @@ use Rattle.legs.proofs.leg_at.Tie as tie
 row-of-requires : tie.Need-row-of-requires
 row-of-requires c κs = search needs
 
-byte-at-requires : tie.Need-byte-at-requires
-byte-at-requires c κs = search needs
+mul-leg-in : tie.Need-mul-leg-in
+mul-leg-in c = search needs
 
-decode-requires : tie.Need-decode-requires
-decode-requires c κs = search needs
+sub-leg-in : tie.Need-sub-leg-in
+sub-leg-in c = search needs
+
+cast-leg-in : tie.Need-cast-leg-in
+cast-leg-in c = search needs
+
+shr-leg-in : tie.Need-shr-leg-in
+shr-leg-in c = search needs
+
+leg-in-requires : tie.Need-leg-in-requires
+leg-in-requires c κs = search needs
 
 returns : tie.Need-returns
 returns c =
-    let b = c .before in
-    let r = b .before in
+    let r = c .before in
     let x = r .before .before .args in
-    c .decode .ensures
-    ∙ rw (b .byte-at .ensures, r .row-of .ensures .0) (leg-rule (x .method) (x .place) (r .before .if1 .taken))
+    c .leg-in .ensures ∙ rw (r .row-of .ensures) (leg-rule (x .method) (x .place) (r .before .if1 .taken))
 
 returns-2 : tie.Need-returns-2
 returns-2 c = let x = c .before .args in sym (past (x .method) (x .place) (c .if1 .left))
 
 pub leg-at-spec : {M : Type 1} → statement M
-leg-at-spec = tie.close (tie.spec row-of-requires byte-at-requires decode-requires returns returns-2)
+leg-at-spec = tie.close (tie.spec row-of-requires mul-leg-in sub-leg-in cast-leg-in shr-leg-in leg-in-requires returns returns-2)

@@ -1,4 +1,4 @@
--- `drive::alarm_number` meets its contract: the count of trailing zeros is the least place whose bit is set.
+-- `states::alarm_number` meets its contract: the count of trailing zeros is the least place whose bit is set.
 -- Assumes nothing.
 use Prim.Native.Nat.{ℕ, _+_}
 use mathlib.Core.Path.{ap}

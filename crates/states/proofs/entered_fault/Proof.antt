@@ -1,4 +1,4 @@
--- `drive::entered_fault` meets its contract.
+-- `states::entered_fault` meets its contract.
 -- Assumes nothing.
 use borrow.Author.Needs.{needs}
 use Rattle.states.proofs.entered_fault.Statement.{statement}

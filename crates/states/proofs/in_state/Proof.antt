@@ -1,4 +1,4 @@
--- `drive::in_state` meets its contract.
+-- `states::in_state` meets its contract.
 -- Assumes nothing.
 use borrow.Author.Needs.{needs}
 use Rattle.states.proofs.in_state.Statement.{statement}

@@ -1,4 +1,4 @@
--- `drive::is_live` meets its contract.
+-- `states::is_live` meets its contract.
 -- Assumes nothing.
 use borrow.Author.Needs.{needs}
 use Rattle.states.proofs.is_live.Statement.{statement}
