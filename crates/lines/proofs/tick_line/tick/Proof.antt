@@ -1,0 +1,77 @@
+-- `lines::tick_line::tick` meets its contract: its words, one after the other.
+-- Assumes nothing.
+use mir.Facts.{toZ-ofZ}
+use mir.Syntax.{w32}
+use mir.Val.{SFits}
+use Rattle.lines.specs.Ticks.{tickRead}
+use borrow.Author.Needs.{needs}
+use Rattle.lines.proofs.tick_line.tick.Statement.{statement}
+use Rattle.lines.proofs.tick_line.tick.Tie as tie
+
+hexadecimal4-requires : tie.Need-hexadecimal4-requires
+hexadecimal4-requires c κs = search needs
+
+command-requires : tie.Need-command-requires
+command-requires c κs = search needs
+
+at-requires : tie.Need-at-requires
+at-requires c κs = search needs
+
+whole32-requires : tie.Need-whole32-requires
+whole32-requires c κs = search needs
+
+switches-requires : tie.Need-switches-requires
+switches-requires c κs = search needs
+
+standstill-requires : tie.Need-standstill-requires
+standstill-requires c κs = search needs
+
+limit-set-requires : tie.Need-limit-set-requires
+limit-set-requires c κs = search needs
+
+hexadecimal8-requires : tie.Need-hexadecimal8-requires
+hexadecimal8-requires c κs = search needs
+
+cast-t20 : tie.Need-cast-t20
+cast-t20 c = record { fits = c .before .before .before .before .before .before .before .before .before .before .before .before .before .before .before .before .hexadecimal4 .ensures .1 }
+
+limit-set-requires-2 : tie.Need-limit-set-requires-2
+limit-set-requires-2 c κs = search needs
+
+end-requires : tie.Need-end-requires
+end-requires c κs = search needs
+
+returns : tie.Need-returns
+unfolding tickRead
+returns c = 
+    let p : SFits w32 (c .before .before .before .before .before .before .before .before .before .before .before .before .before .before .whole32 .result .value) = search needs in
+    rw (
+      toZ-ofZ p,
+      c .end .ensures,
+      c .before .before .limit-set2 .ensures,
+      c .before .before .before .before .before .hexadecimal8 .ensures,
+      c .before .before .before .before .before .before .before .limit-set .ensures,
+      c .before .before .before .before .before .before .before .before .before .standstill .ensures,
+      c .before .before .before .before .before .before .before .before .before .before .before .before .switches .ensures,
+      c .before .before .before .before .before .before .before .before .before .before .before .before .before .before .whole32 .ensures,
+      c .before .before .before .before .before .before .before .before .before .before .before .before .before .before .before .at .ensures,
+      c .before .before .before .before .before .before .before .before .before .before .before .before .before .before .before .before .before .command .ensures,
+      c .before .before .before .before .before .before .before .before .before .before .before .before .before .before .before .before .before .before .before .hexadecimal4 .ensures .0,
+    )
+
+pub tick-spec : {M : Type 1} → statement M
+tick-spec =
+    tie.close
+    (tie.spec
+    hexadecimal4-requires
+    command-requires
+    at-requires
+    whole32-requires
+    switches-requires
+    standstill-requires
+    limit-set-requires
+    hexadecimal8-requires
+    cast-t20
+    limit-set-requires-2
+    end-requires
+    returns)

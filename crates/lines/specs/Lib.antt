@@ -1,0 +1,4 @@
+pub mod Asked
+pub mod Ticks
+pub mod Sheets
+pub mod Lines

@@ -1,0 +1,64 @@
+-- What a line says: its first word tells its kind. "A line with no word gets no answer."
+-- Assumes nothing.
+use Prim.Native.Nat.{ℕ, _+_, min}
+use mathlib.Core.Bool.{cond}
+use mathlib.Core.List.{List}
+use lib.Dec.{eqb}
+use lib.ListN.{length, take}
+use Rattle.bytes.specs.Bytes.{indexOf}
+use Rattle.numerals.specs.Spelling.{spelledOf}
+use Rattle.scanner.specs.Cursor.{startOf, acceptOf, refuseOf}
+use Rattle.scanner.specs.declared.Cursor.{Cursor}
+use Rattle.scanner.specs.declared.Expected.the-variants as expected
+use Rattle.scanner.specs.Readings.{numberOf, endOf}
+use Rattle.tokens.specs.declared.Span.{Span}
+use Rattle.tokens.specs.Ascii.{ascii, sameOf}
+use Rattle.tokens.specs.Words.{nextOf, bytesOf}
+use Rattle.lines.specs.declared.Line.{Line}
+use Rattle.lines.specs.declared.Line.the-variants as line
+use Rattle.lines.specs.Sheets.{sheetRead}
+use Rattle.lines.specs.Ticks.{tickRead}
+
+-- "COLUMN, in bytes from 1"; at most 256, a guard, since a line has at most 255 bytes
+abbrev pub columnOf : ℕ → ℕ
+columnOf at = min at 255 + 1
+
+abbrev pub lostAt : Cursor → Line
+lostAt c = line.Unreadable (record { column = columnOf (c .at); expected = c .expected })
+
+-- a line read to its end, or where it was lost
+abbrev pub unlessLost : Cursor → Line → Line
+unlessLost c l = cond (c .lost) (lostAt c) l
+
+abbrev pub freshLine : List ℕ → Cursor → Line
+freshLine text c = unlessLost (endOf text c) line.Fresh
+
+abbrev pub wordLine : List ℕ → Cursor → Line
+wordLine text c =
+    let word = numberOf (spelledOf 16 8) expected.Digits text c in
+    unlessLost (endOf text (word .cursor)) (line.Word (word .value))
+
+abbrev pub tickLine : List ℕ → Cursor → Line
+tickLine text c = unlessLost (tickRead text c .cursor) (line.Tick (tickRead text c .tick))
+
+abbrev pub sheetLine : List ℕ → Cursor → Line
+sheetLine text c = unlessLost (sheetRead text c .cursor) (line.Sheet (sheetRead text c .writing))
+
+-- a line by its first word; `next` is the cursor past it, `lost` the cursor at it
+abbrev pub kindIn : List ℕ → List ℕ → Cursor → Cursor → Line
+kindIn text word next lost =
+    cond (sameOf word (ascii "word")) (wordLine text next)
+    (cond (sameOf word (ascii "tick")) (tickLine text next)
+    (cond (sameOf word (ascii "sheet")) (sheetLine text next) (cond (sameOf word (ascii "fresh")) (freshLine text next) (lostAt lost))))
+
+abbrev pub kindWith : List ℕ → Span → Line
+kindWith text place =
+    cond (eqb (place .start) (length text)) line.Blank
+    (kindIn text (bytesOf text place) (acceptOf startOf place) (refuseOf startOf place expected.Keyword))
+
+unfoldable pub kindOf : List ℕ → Line
+kindOf text = kindWith text (nextOf text 0)
+
+-- "Everything from the first `#` on is a comment and is ignored"
+unfoldable pub lineOf : List ℕ → Line
+lineOf bs = kindOf (take (indexOf 35 bs) bs)

@@ -1,0 +1,41 @@
+-- "tick HEX4 COMMAND at I32 SWITCHES STILL SET HEX8"
+-- Assumes nothing.
+use Prim.Native.Nat.{ℕ, _^_}
+use mathlib.Core.Bool.{Bool, true, false}
+use mathlib.Core.List.{List}
+use Rattle.numerals.specs.Signs.{signedOf}
+use Rattle.numerals.specs.Spelling.{spelledOf}
+use Rattle.scanner.specs.declared.Cursor.{Cursor}
+use Rattle.scanner.specs.declared.Expected.the-variants as expected
+use Rattle.scanner.specs.Readings.{numberOf, wholeOf, atOf, standstillOf, limitSetOf, switchesOf, endOf}
+use Rattle.torque.specs.declared.LimitSet.{LimitSet}
+use Rattle.torque.specs.declared.LimitSet.the-variants.{Set1, Set2}
+use Rattle.lines.specs.declared.tick_line.TickRead.{TickRead}
+use Rattle.lines.specs.Asked.{commandOf}
+
+abbrev pub setOf : Bool → LimitSet
+setOf true = Set1
+setOf false = Set2
+
+unfoldable pub tickRead : List ℕ → Cursor → TickRead
+tickRead text c =
+    let control = numberOf (spelledOf 16 4) expected.Digits text c in
+    let asked = commandOf text (control .cursor) in
+    let position = wholeOf (signedOf (2 ^ 31)) text (atOf text (asked .cursor)) in
+    let switches = switchesOf text (position .cursor) in
+    let still = standstillOf text (switches .cursor) in
+    let set = limitSetOf text (still .cursor) in
+    let alarm = numberOf (spelledOf 16 8) expected.Digits text (set .cursor) in
+    record {
+      tick =
+          record {
+            control = control .value;
+            command = asked .command;
+            position = position .value;
+            switches = switches .value;
+            still = still .value;
+            set = setOf (set .value);
+            alarm = alarm .value;
+          };
+      cursor = endOf text (alarm .cursor);
+    }

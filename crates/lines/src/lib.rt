@@ -1,0 +1,125 @@
+// What a line of the program says.
+mod asked;
+pub mod sheet_line;
+mod tick_line;
+
+use ticks::Tick;
+use scanner::Cursor;
+use scanner::Expected;
+use sheet_line::Writing;
+ghost use mathlib.Core.Path.{_≡_};
+ghost use Rattle.lines.specs.Lines.{columnOf, lostAt, freshLine, wordLine, tickLine, sheetLine, kindOf, lineOf};
+
+// A line that cannot be read: the column, from 1, and what was expected there.
+pub struct Trouble {
+    pub column: usize,
+    pub expected: Expected,
+}
+
+pub enum Line {
+    Blank,
+    Fresh,
+    Word(u32),
+    Tick(Tick),
+    Sheet(Writing),
+    Unreadable(Trouble),
+}
+
+// A line has at most 255 bytes, so that the column past it is 256.
+fn column(at: usize) -> usize
+    ensures { λ r. ⌜ r ≡ columnOf at ⌝ }
+{
+    if at < 255 { at + 1 } else { 256 }
+}
+
+fn lost(cursor: Cursor) -> Line
+    ensures { λ r. ⌜ r ≡ lostAt cursor ⌝ }
+{
+    let expected = cursor.expected;
+    Line::Unreadable(Trouble {
+        column: column(cursor.at),
+        expected,
+    })
+}
+
+fn fresh(text: &[u8], cursor: Cursor) -> Line
+    ensures { λ r. ⌜ r ≡ freshLine (now (text .entry)) cursor ⌝ }
+{
+    let cursor = cursor.end(text);
+    if cursor.lost {
+        lost(cursor)
+    } else {
+        Line::Fresh
+    }
+}
+
+fn settings_word(text: &[u8], cursor: Cursor) -> Line
+    ensures { λ r. ⌜ r ≡ wordLine (now (text .entry)) cursor ⌝ }
+{
+    let word = cursor.hexadecimal8(text);
+    let cursor = word.cursor;
+    let cursor = cursor.end(text);
+    if cursor.lost {
+        lost(cursor)
+    } else {
+        Line::Word(word.value)
+    }
+}
+
+fn one_tick(text: &[u8], cursor: Cursor) -> Line
+    ensures { λ r. ⌜ r ≡ tickLine (now (text .entry)) cursor ⌝ }
+{
+    let read = tick_line::tick(text, cursor);
+    let tick = read.tick;
+    let cursor = read.cursor;
+    if cursor.lost {
+        lost(cursor)
+    } else {
+        Line::Tick(tick)
+    }
+}
+
+fn one_sheet(text: &[u8], cursor: Cursor) -> Line
+    ensures { λ r. ⌜ r ≡ sheetLine (now (text .entry)) cursor ⌝ }
+{
+    let read = sheet_line::sheet(text, cursor);
+    let writing = read.writing;
+    let cursor = read.cursor;
+    if cursor.lost {
+        lost(cursor)
+    } else {
+        Line::Sheet(writing)
+    }
+}
+
+// A text, its comment left out: its first word says what kind of line it is.
+fn kind(text: &[u8]) -> Line
+    ensures { λ r. ⌜ r ≡ kindOf (now (text .entry)) ⌝ }
+{
+    let word = tokens::next(text, 0);
+    let start = word.start;
+    let end = word.end;
+    if start == text.len() {
+        return Line::Blank;
+    }
+    let cursor = Cursor::start().accept(word);
+    if tokens::same(&text[start..end], b"word") {
+        settings_word(text, cursor)
+    } else if tokens::same(&text[start..end], b"tick") {
+        one_tick(text, cursor)
+    } else if tokens::same(&text[start..end], b"sheet") {
+        one_sheet(text, cursor)
+    } else if tokens::same(&text[start..end], b"fresh") {
+        fresh(text, cursor)
+    } else {
+        lost(Cursor::start().refuse(word, Expected::Keyword))
+    }
+}
+
+// A line, without its end.
+pub fn read(line: &[u8]) -> Line
+    ensures { λ r. ⌜ r ≡ lineOf (now (line .entry)) ⌝ }
+{
+    let end = tokens::find(line, b'#');
+    kind(&line[..end])
+}

@@ -1,0 +1,23 @@
+-- `printer::unreadable` meets its contract.
+-- Assumes nothing.
+use Rattle.page.proofs.Printing.{_⨾_}
+use borrow.Author.Needs.{needs}
+use Rattle.printer.proofs.unreadable.Statement.{statement}
+use Rattle.printer.proofs.unreadable.Tie as tie
+
+place-requires : tie.Need-place-requires
+place-requires c κs = search needs
+
+expected-requires : tie.Need-expected-requires
+expected-requires c κs = search needs
+
+same-length : tie.Need-same-length
+same-length c = search needs
+
+returns : tie.Need-returns
+returns c = 
+    c .before .before .before .before .before .before .place .ensures
+    ⨾ c .before .before .expected .ensures
+
+pub unreadable-spec : {M : Type 1} → statement M
+unreadable-spec = tie.close (tie.spec place-requires expected-requires same-length returns)

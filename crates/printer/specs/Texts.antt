@@ -1,0 +1,74 @@
+-- Answers as text: "one space between words", and after a number other than 0 two spaces and 01's trade word.
+-- Assumes nothing.
+use Prim.Native.Nat.{ℕ}
+use mathlib.Core.Bool.{cond}
+use mathlib.Core.List.{List, [], _∷_, _++_}
+use lib.Dec.{eqb}
+use Rattle.answers.specs.declared.Answer.{Answer}
+use Rattle.lines.specs.declared.Trouble.{Trouble}
+use Rattle.numerals.specs.Writing.{decimal, hexadecimal, whole}
+use Rattle.scanner.specs.declared.Expected.{Expected}
+use Rattle.scanner.specs.declared.Expected.the-variants.{Keyword, Digits, Whole, Float, Command, At, Switches, Standstill, Set, End}
+use Rattle.tokens.specs.Ascii.{ascii}
+
+abbrev pub tradeWord : ℕ → List ℕ
+tradeWord n =
+    cond (eqb n 0) (10 ∷ [])
+    (cond (eqb n 1) (ascii "  out of turn\n")
+    (cond (eqb n 2) (ascii "  strange layout\n")
+    (cond (eqb n 3) (ascii "  out of range\n")
+    (cond (eqb n 4) (ascii "  bad sum\n")
+    (cond (eqb n 5) (ascii "  stops crossed\n")
+    (cond (eqb n 6) (ascii "  out of reach\n")
+    (cond (eqb n 7) (ascii "  axis live\n")
+    (cond (eqb n 8) (ascii "  no sheet\n") (ascii "  short buffer\n")))))))))
+
+abbrev pub freshText : List ℕ
+freshText = ascii "fresh\n"
+
+-- "word N"
+abbrev pub wordText : ℕ → List ℕ
+wordText n = ascii "word " ++ decimal n ++ tradeWord n
+
+-- "tick N torque T speed V position P status SSSS mode M alarm A"
+unfoldable pub tickText : Answer → List ℕ
+tickText a =
+    ascii "tick " ++ decimal (a .number)
+    ++ ascii " torque " ++ whole (a .torque)
+    ++ ascii " speed " ++ whole (a .speed)
+    ++ ascii " position " ++ whole (a .position)
+    ++ ascii " status " ++ hexadecimal 4 (a .status)
+    ++ ascii " mode " ++ whole (a .mode)
+    ++ ascii " alarm " ++ decimal (a .alarm)
+    ++ tradeWord (a .number)
+
+unfoldable pub wordsText : List ℕ → List ℕ
+wordsText [] = []
+wordsText (w ∷ ws) = (32 ∷ []) ++ hexadecimal 8 w ++ wordsText ws
+
+-- "sheet N and the LENGTH words of the buffer after the call"
+abbrev pub sheetText : ℕ → List ℕ → List ℕ
+sheetText n buffer = ascii "sheet " ++ decimal n ++ wordsText buffer ++ tradeWord n
+
+abbrev pub expectedText : Expected → List ℕ
+expectedText Keyword = ascii " expected word, tick, sheet or fresh\n"
+expectedText Digits = ascii " expected hexadecimal digits\n"
+expectedText Whole = ascii " expected a whole number\n"
+expectedText Float = ascii " expected a float\n"
+expectedText Command = ascii " expected a command\n"
+expectedText At = ascii " expected at\n"
+expectedText Switches = ascii " expected switches\n"
+expectedText Standstill = ascii " expected still or moving\n"
+expectedText Set = ascii " expected set1 or set2\n"
+expectedText End = ascii " expected end of line\n"
+
+abbrev pub placeText : ℕ → ℕ → List ℕ
+placeText line column = ascii "unreadable " ++ decimal line ++ (32 ∷ []) ++ decimal column
+
+-- "unreadable LINE COLUMN expected WHAT"
+abbrev pub unreadableText : ℕ → Trouble → List ℕ
+unreadableText line t = placeText line (t .column) ++ expectedText (t .expected)
+
+-- "unreadable LINE 256 line too long"
+abbrev pub longText : ℕ → List ℕ
+longText line = placeText line 256 ++ ascii " line too long\n"
