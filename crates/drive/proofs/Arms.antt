@@ -1,8 +1,8 @@
--- An arm of a `match` on an enum holds for the variants with its numbers: a definition that gives one value at each of them, as antt
--- computes it, gives that value in the arm.
+-- An arm of a `match` on an enum holds for the variants with its numbers: two functions that antt computes to the same values at each of
+-- them agree in the arm.
 -- Assumes nothing.
 use Prim.Native.Nat.{ℕ}
-use mathlib.Core.Path.{_≡_, refl, sym, ap, _∙_}
+use mathlib.Core.Path.{_≡_, refl, sym, ap, subst, _∙_}
 use mathlib.Core.List.{List, [], _∷_, map, head-eq-of-cons-eq, tail-eq-of-cons-eq}
 use mathlib.Core.Logic.{inl, inr}
 use lib.ListN.{getD}
@@ -15,12 +15,15 @@ use Rattle.drive.specs.declared.ControlCommand.{ControlCommand}
 use Rattle.drive.specs.declared.ControlCommand.the-variants.{Nothing, DisableVoltage, QuickStop, Shutdown, SwitchOn, EnableOperation}
 use Rattle.drive.proofs.ControlCommand as command
 
-module _ {A : Type 0} (tag : A → ℕ) (at : ℕ → A) (same : (a : A) → at (tag a) ≡ a) where
-  arm : (f : A → State) (t : State) (a : A) (ks : List ℕ) → OneOf ks (tag a) → map (λ k. f (at k)) ks ≡ map (λ k. t) ks → t ≡ f a
-  arm f t a [] h e = absurd h
-  arm f t a (k ∷ []) h e = sym (head-eq-of-cons-eq e) ∙ ap (λ n. f (at n)) (sym h) ∙ ap f (same a)
-  arm f t a (k ∷ j ∷ ks) (inl h) e = sym (head-eq-of-cons-eq e) ∙ ap (λ n. f (at n)) (sym h) ∙ ap f (same a)
-  arm f t a (k ∷ j ∷ ks) (inr h) e = arm f t a (j ∷ ks) h (tail-eq-of-cons-eq e)
+module _ {A : Type 0} (tag : A → ℕ) (at : ℕ → A) (same : (a : A) → at (tag a) ≡ a) (g f : A → State) (a : A) where
+  here : (k : ℕ) → tag a ≡ k → g (at k) ≡ f (at k) → g a ≡ f a
+  here k h e = subst (λ b. g b ≡ f b) (ap at (sym h) ∙ same a) e
+
+  arm : (ks : List ℕ) → OneOf ks (tag a) → map (λ k. g (at k)) ks ≡ map (λ k. f (at k)) ks → g a ≡ f a
+  arm [] h e = absurd h
+  arm (k ∷ []) h e = here k h (head-eq-of-cons-eq e)
+  arm (k ∷ j ∷ ks) (inl h) e = here k h (head-eq-of-cons-eq e)
+  arm (k ∷ j ∷ ks) (inr h) e = arm (j ∷ ks) h (tail-eq-of-cons-eq e)
 
 -- commands and states by number
 abbrev commandAt : ℕ → ControlCommand
@@ -49,9 +52,9 @@ state-same FaultReaction = refl
 state-same Fault = refl
 
 pub command-arm : (f : ControlCommand → State) (t : State) (c : ControlCommand) (ks : List ℕ)
-    → OneOf ks (tagOf command.the-type c) → map (λ k. f (commandAt k)) ks ≡ map (λ k. t) ks → t ≡ f c
-command-arm = arm (λ c. tagOf command.the-type c) commandAt command-same
+    → OneOf ks (tagOf command.the-type c) → map (λ k. t) ks ≡ map (λ k. f (commandAt k)) ks → t ≡ f c
+command-arm f t = arm (λ c. tagOf command.the-type c) commandAt command-same (λ c. t) f
 
-pub state-arm : (f : State → State) (t : State) (s : State) (ks : List ℕ)
-    → OneOf ks (tagOf state.the-type s) → map (λ k. f (stateAt k)) ks ≡ map (λ k. t) ks → t ≡ f s
+pub state-arm : (g f : State → State) (s : State) (ks : List ℕ)
+    → OneOf ks (tagOf state.the-type s) → map (λ k. g (stateAt k)) ks ≡ map (λ k. f (stateAt k)) ks → g s ≡ f s
 state-arm = arm (λ s. tagOf state.the-type s) stateAt state-same

@@ -86,18 +86,11 @@ fn from_enabled(command: ControlCommand) -> State
 fn at_standstill(still: bool, option: u32, enable: bool) -> State
     ensures { λ r. ⌜ r ≡ cond still (standstillOf option enable) State.QuickStopActive ⌝ }
 {
-    if still {
-        match option {
-            2 => State::SwitchOnDisabled,
-            6 => {
-                if enable {
-                    State::OperationEnabled
-                } else {
-                    State::QuickStopActive
-                }
-            }
-            _ => State::QuickStopActive,
-        }
+    if still & (option == 2) {
+        return State::SwitchOnDisabled;
+    }
+    if still & (option == 6) & enable {
+        State::OperationEnabled
     } else {
         State::QuickStopActive
     }
@@ -124,8 +117,7 @@ fn quiet(state: State, command: ControlCommand, still: bool, option: u32) -> Sta
         State::SwitchedOn => from_switched_on(command),
         State::OperationEnabled => from_enabled(command),
         State::QuickStopActive => from_quick_stop(command, still, option),
-        State::FaultReaction => State::FaultReaction,
-        State::Fault => State::Fault,
+        State::FaultReaction | State::Fault => state,
     }
 }
 

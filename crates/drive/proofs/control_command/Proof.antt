@@ -23,11 +23,10 @@ bit-requires-4 c κs = search needs
 bit-requires-5 : tie.Need-bit-requires-5
 bit-requires-5 c κs = search needs
 
-returns : tie.Need-returns
-unfolding controlCommandOf
-returns c = rw (sym (c .before .bit .ensures) ∙ c .if1 .taken)
+-- what the paths know: bit 7 is set; or it is clear, then bits 1, 2 and 0 are set
+set-7 : (c : tie.Then1) → bitOf (c .before .before .args .control) 7 ≡ true
+set-7 c = sym (c .before .bit .ensures) ∙ c .if1 .taken
 
--- what the paths share: bit 7 is clear, then bits 1, 2 and 0 are set
 clear-7 : (c : tie.Else1) → bitOf (c .before .before .args .control) 7 ≡ false
 clear-7 c = sym (c .before .bit .ensures) ∙ c .if1 .left
 
@@ -39,6 +38,10 @@ set-2 c = sym (c .before .bit3 .ensures) ∙ c .if3 .taken
 
 set-0 : (c : tie.Then4) → bitOf (c .before .before .before .before .before .before .before .before .args .control) 0 ≡ true
 set-0 c = sym (c .before .bit4 .ensures) ∙ c .if4 .taken
+
+returns : tie.Need-returns
+unfolding controlCommandOf
+returns c = rw (set-7 c)
 
 returns-2 : tie.Need-returns-2
 unfolding controlCommandOf

@@ -1,6 +1,10 @@
 -- `drive::quiet` meets its contract: each arm is a clause of the definition.
 -- Assumes nothing.
+use mathlib.Core.Path.{refl}
+use mathlib.Core.List.{[], _∷_}
 use borrow.Author.Needs.{needs}
+use Rattle.drive.specs.Transitions.{quietOf}
+use Rattle.drive.proofs.Arms.{state-arm}
 use Rattle.drive.proofs.quiet.Statement.{statement}
 use Rattle.drive.proofs.quiet.Tie as tie
 
@@ -37,12 +41,6 @@ enum-told-6 c = search needs
 from-quick-stop-requires : tie.Need-from-quick-stop-requires
 from-quick-stop-requires c κs = search needs
 
-enum-told-7 : tie.Need-enum-told-7
-enum-told-7 c = search needs
-
-enum-told-8 : tie.Need-enum-told-8
-enum-told-8 c = search needs
-
 returns : tie.Need-returns
 returns c = rw (c .enum-told .given .1)
 
@@ -62,10 +60,9 @@ returns-6 : tie.Need-returns-6
 returns-6 c = rw (c .before .enum-told6 .given .1, c .from-quick-stop .ensures)
 
 returns-7 : tie.Need-returns-7
-returns-7 c = rw (c .enum-told7 .given .1)
-
-returns-8 : tie.Need-returns-8
-returns-8 c = rw (c .enum-told8 .given .1)
+returns-7 c =
+    let x = c .before .args in
+    state-arm (λ s. s) (λ s. quietOf s (x .command) (x .still) (x .option)) (x .state) (6 ∷ 7 ∷ []) (c .match .keys7) refl
 
 pub quiet-spec : {M : Type 1} → statement M
 quiet-spec =
@@ -82,13 +79,10 @@ quiet-spec =
     from-enabled-requires
     enum-told-6
     from-quick-stop-requires
-    enum-told-7
-    enum-told-8
     returns
     returns-2
     returns-3
     returns-4
     returns-5
     returns-6
-    returns-7
-    returns-8)
+    returns-7)

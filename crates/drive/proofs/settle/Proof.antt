@@ -29,7 +29,7 @@ returns-3 c = rw (c .before .enum-told2 .given .1, c .if1 .left)
 other : (c : tie.At-match-keys3) → let x = c .before .args in cond (x .alarm) FaultReaction (x .quiet) ≡ settled (x .state) (x .alarm) (x .reset) (x .quiet)
 other c =
     let x = c .before .args in
-    state-arm (λ s. settled s (x .alarm) (x .reset) (x .quiet)) (cond (x .alarm) FaultReaction (x .quiet)) (x .state) (0 ∷ 1 ∷ 2 ∷ 3 ∷ 4 ∷ 5 ∷ []) (c .match .keys3) refl
+    state-arm (λ s. cond (x .alarm) FaultReaction (x .quiet)) (λ s. settled s (x .alarm) (x .reset) (x .quiet)) (x .state) (0 ∷ 1 ∷ 2 ∷ 3 ∷ 4 ∷ 5 ∷ []) (c .match .keys3) refl
 
 returns-4 : tie.Need-returns-4
 returns-4 c = ap (λ b. cond b FaultReaction (c .before .before .args .quiet)) (sym (c .if2 .taken)) ∙ other (c .before)
