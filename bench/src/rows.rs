@@ -68,7 +68,7 @@ fn route(n: usize) -> Events {
     ticks(ROUTE[..n].iter().map(|&(position, switches)| homing(position, switches)))
 }
 
-pub fn rows() -> Vec<Row> {
+pub fn rows() -> [Row; NAMES.len()] {
     let sheet = words(&SHEET);
     let enabled = sheet.then(&ticks([SHUTDOWN, SHUTDOWN, ENABLE, ENABLE].map(|control| Tick { control, ..STILL })));
     let homed = enabled.then(&route(5));
@@ -77,7 +77,7 @@ pub fn rows() -> Vec<Row> {
     let none = Events::default();
     let gains = |i: i32| Gains { kp: 2.0, kd: 0.1, pd: 0.5, vd: 0.0, t: 0.1, p: i as f32 * 0.01, v: 0.2 };
     let position = |i: i32| Command::Position(i * 23 - 1150, 100);
-    vec![
+    [
         row(&none, words(&[SHEET[0]; 100])),
         row(&words(&SHEET[..1]), words(&SHEET[1..14])),
         row(&words(&SHEET[..14]), words(&SHEET[14..])),

@@ -16,10 +16,6 @@ impl Events {
         self.words.len() / WIDTH
     }
 
-    pub fn is_empty(&self) -> bool {
-        self.words.is_empty()
-    }
-
     pub fn word(&mut self, word: u32) {
         self.words.extend([0, word, 0, 0, 0, 0, 0]);
         self.floats.extend([0.0; WIDTH]);

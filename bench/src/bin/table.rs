@@ -5,9 +5,9 @@ use std::collections::HashMap;
 use std::mem::size_of;
 use std::{env, fs, io};
 
+use bench::baseline;
 use bench::layout::proved;
 use bench::rows::NAMES;
-use bench::{baseline, rows};
 
 /// Instructions of each callee, inclusive, by caller.
 fn calls(profile: &str) -> HashMap<(String, String), u64> {
@@ -77,6 +77,5 @@ fn main() -> io::Result<()> {
     print_row("answer", size_of::<proved::Answer>() as f64, size_of::<baseline::Answer>() as f64);
     print_row("code: words and ticks", bytes(symbols, &["axis_run", "legs::"]) as f64, bytes(symbols, &["baseline_run"]) as f64);
     print_row("code: writer", bytes(symbols, &["axis_write"]) as f64, bytes(symbols, &["baseline_write"]) as f64);
-    debug_assert_eq!(rows::rows().len(), NAMES.len());
     Ok(())
 }

@@ -105,7 +105,7 @@ fn script() -> io::Result<Events> {
 }
 
 fn main() -> io::Result<()> {
-    let mut rows = rows();
+    let mut rows = Vec::from(rows());
     rows.push(Row { before: Events::default(), counted: script()? });
     run_rows(&rows);
     write_both();
