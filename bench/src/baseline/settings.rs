@@ -1,0 +1,243 @@
+//! Settings, and the words that carry them.
+
+const DATA: u32 = (1 << 28) - 1;
+
+/// Outcome of an end word whose settings are sound.
+pub const COMPLETE: u8 = 255;
+
+/// A set of torque limits, as magnitudes.
+#[derive(Clone, Copy)]
+pub struct Limits {
+    pub positive: u16,
+    pub negative: u16,
+}
+
+#[derive(Clone, Copy)]
+pub struct Settings {
+    pub fast: u32,
+    pub slow: u32,
+    pub offset: i32,
+    pub numerator: u32,
+    pub denominator: u32,
+    pub lower: i32,
+    pub upper: i32,
+    pub rated: u32,
+    pub maximum: u16,
+    pub limits: [Limits; 2],
+    pub method: u8,
+    pub option: u8,
+}
+
+fn method_ok(method: u32) -> bool {
+    matches!(method, 23..=30 | 33..=35)
+}
+
+fn torque_ok(torque: u32) -> bool {
+    torque <= 3000
+}
+
+fn ratio_ok(ratio: u32) -> bool {
+    ratio.wrapping_sub(1) < 1 << 20
+}
+
+fn rated_ok(rated: u32) -> bool {
+    rated.wrapping_sub(1) < 1 << 24
+}
+
+fn position_ok(position: i32) -> bool {
+    (-(1 << 27)..1 << 27).contains(&position)
+}
+
+/// 28 bits read as signed.
+fn position(data: u32) -> i32 {
+    (data << 4) as i32 >> 4
+}
+
+impl Settings {
+    pub const NONE: Settings = Settings {
+        fast: 0,
+        slow: 0,
+        offset: 0,
+        numerator: 0,
+        denominator: 1,
+        lower: 0,
+        upper: 0,
+        rated: 1,
+        maximum: 0,
+        limits: [Limits { positive: 0, negative: 0 }; 2],
+        method: 35,
+        option: 2,
+    };
+
+    /// A position as a count from home, rounded towards minus infinity.
+    pub fn geared(&self, position: i32) -> i64 {
+        let product = (position - self.offset) as i64 * self.numerator as i64;
+        let quotient = product / self.denominator as i64;
+        if product % (self.denominator as i64) < 0 {
+            quotient - 1
+        } else {
+            quotient
+        }
+    }
+
+    /// 0, or 5 or 6.
+    fn check_limits(&self) -> u8 {
+        const REACH: std::ops::RangeInclusive<i64> = -(1 << 30)..=1 << 30;
+        if self.lower >= self.upper {
+            5
+        } else if !REACH.contains(&self.geared(self.lower)) || !REACH.contains(&self.geared(self.upper)) {
+            6
+        } else {
+            0
+        }
+    }
+
+    fn in_range(&self) -> bool {
+        method_ok(self.method as u32)
+            && self.fast.wrapping_sub(1) < DATA
+            && self.slow.wrapping_sub(1) < DATA
+            && position_ok(self.offset)
+            && ratio_ok(self.numerator)
+            && ratio_ok(self.denominator)
+            && position_ok(self.lower)
+            && position_ok(self.upper)
+            && torque_ok(self.maximum as u32)
+            && self.limits.iter().all(|l| torque_ok(l.positive as u32) && torque_ok(l.negative as u32))
+            && (self.option == 2 || self.option == 6)
+            && rated_ok(self.rated)
+    }
+}
+
+/// The settings that are being read: the kind due next, and the sum of the data so far.
+pub struct Pending {
+    pub settings: Settings,
+    due: u8,
+    sum: u32,
+}
+
+impl Pending {
+    pub const EMPTY: Pending = Pending { settings: Settings::NONE, due: 0, sum: 0 };
+
+    /// Takes one word. Where it is refused, or completes the settings, nothing stays due but a start word.
+    pub fn take(&mut self, word: u32) -> u8 {
+        let kind = (word >> 28) as u8;
+        let data = word & DATA;
+        if kind != self.due && kind != 0 {
+            self.due = 0;
+            return 1;
+        }
+        let s = &mut self.settings;
+        let ok = match kind {
+            0 => {
+                self.sum = 0;
+                if data != 1 {
+                    self.due = 0;
+                    return 2;
+                }
+                true
+            }
+            1 => {
+                s.method = data as u8;
+                method_ok(data)
+            }
+            2 => {
+                s.fast = data;
+                data != 0
+            }
+            3 => {
+                s.slow = data;
+                data != 0
+            }
+            4 => {
+                s.offset = position(data);
+                true
+            }
+            5 => {
+                s.numerator = data;
+                ratio_ok(data)
+            }
+            6 => {
+                s.denominator = data;
+                ratio_ok(data)
+            }
+            7 => {
+                s.lower = position(data);
+                true
+            }
+            8 => {
+                s.upper = position(data);
+                true
+            }
+            9 => {
+                s.maximum = data as u16;
+                torque_ok(data)
+            }
+            10 | 11 => {
+                let (positive, negative) = (data & 0x3fff, data >> 14);
+                s.limits[kind as usize - 10] = Limits { positive: positive as u16, negative: negative as u16 };
+                torque_ok(positive) && torque_ok(negative)
+            }
+            12 => {
+                s.option = data as u8;
+                data == 2 || data == 6
+            }
+            13 => {
+                s.rated = data;
+                rated_ok(data)
+            }
+            _ => {
+                self.due = 0;
+                if data != self.sum & DATA {
+                    return 4;
+                }
+                let number = s.check_limits();
+                return if number == 0 { COMPLETE } else { number };
+            }
+        };
+        if !ok {
+            self.due = 0;
+            return 3;
+        }
+        self.sum += data;
+        self.due = if kind == 13 { 15 } else { kind + 1 };
+        0
+    }
+}
+
+/// Writes settings as fifteen words to the front of the buffer; 0, or why they are refused.
+pub fn write_sheet(s: &Settings, buffer: &mut [u32]) -> u8 {
+    let Some(words) = buffer.first_chunk_mut::<15>() else {
+        return 9;
+    };
+    if !s.in_range() {
+        return 3;
+    }
+    let number = s.check_limits();
+    if number != 0 {
+        return number;
+    }
+    let limits = |l: &Limits| (l.negative as u32) << 14 | l.positive as u32;
+    let data = [
+        1,
+        s.method as u32,
+        s.fast,
+        s.slow,
+        s.offset as u32 & DATA,
+        s.numerator,
+        s.denominator,
+        s.lower as u32 & DATA,
+        s.upper as u32 & DATA,
+        s.maximum as u32,
+        limits(&s.limits[0]),
+        limits(&s.limits[1]),
+        s.option as u32,
+        s.rated,
+    ];
+    let mut sum = 0;
+    for (kind, &x) in data.iter().enumerate() {
+        words[kind] = (kind as u32) << 28 | x;
+        sum += x;
+    }
+    words[14] = 15 << 28 | sum & DATA;
+    0
+}

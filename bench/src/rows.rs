@@ -1,0 +1,98 @@
+//! The rows of the table: what is fed before, and what is counted.
+
+use crate::baseline::{Command, Gains, Tick, HOM};
+use crate::words::Events;
+
+/// 01's sheet S.
+pub const SHEET: [u32; 15] = [
+    0x00000001, 0x10000017, 0x20004E20, 0x300003E8, 0x40000000, 0x50000003, 0x60000002, 0x7FFFFC18, 0x800003E8, 0x900003E8,
+    0xA0960320, 0xB04B012C, 0xC0000002, 0xD00007D0, 0xF0E1622B,
+];
+
+/// Its fields, in the order of the settings struct.
+pub const FIELDS: [u32; 15] = [23, 20000, 1000, 0, 3, 2, -1000i32 as u32, 1000, 1000, 800, 600, 300, 300, 2, 2000];
+
+pub const NAMES: [&str; 16] = [
+    "settings word: start",
+    "settings word: one between, mean of 13",
+    "settings word: end, activates",
+    "settings word: refused (1)",
+    "tick refused (8)",
+    "tick: rest",
+    "tick: torque",
+    "tick: position, not homed",
+    "tick: position, followed",
+    "tick: hybrid",
+    "tick: homing, not started",
+    "tick: homing start",
+    "tick: homing leg running",
+    "tick: homing leg ends, next begins",
+    "tick: homing leg ends, homed",
+    "tick: into Fault reaction",
+];
+
+/// Before, and counted.
+pub struct Row {
+    pub before: Events,
+    pub counted: Events,
+}
+
+const SHUTDOWN: u16 = 0x06;
+const ENABLE: u16 = 0x0f;
+const ENABLE_AND_START: u16 = 0x1f;
+
+const STILL: Tick =
+    Tick { control: ENABLE, command: Command::Rest, position: 103, switches: 0, still: true, set: 0, alarm: 0 };
+
+fn words(words: &[u32]) -> Events {
+    let mut events = Events::default();
+    words.iter().for_each(|&w| events.word(w));
+    events
+}
+
+fn ticks(ticks: impl IntoIterator<Item = Tick>) -> Events {
+    let mut events = Events::default();
+    ticks.into_iter().for_each(|t| events.tick(&t));
+    events
+}
+
+/// A homing tick; the mode changes at standstill, in the start tick.
+fn homing(position: i32, switches: u8) -> Tick {
+    Tick { control: ENABLE_AND_START, command: Command::Homing(100), position, switches, still: position == 100, ..STILL }
+}
+
+/// The rehearsed homing of method 23: started at 100, homed at 103.
+const ROUTE: [(i32, u8); 5] = [(100, 0), (110, HOM), (112, 0), (108, HOM), (103, 0)];
+
+fn route(n: usize) -> Events {
+    ticks(ROUTE[..n].iter().map(|&(position, switches)| homing(position, switches)))
+}
+
+pub fn rows() -> [Row; NAMES.len()] {
+    let sheet = words(&SHEET);
+    let enabled = sheet.then(&ticks([SHUTDOWN, SHUTDOWN, ENABLE, ENABLE].map(|control| Tick { control, ..STILL })));
+    let homed = enabled.then(&route(5));
+    let many = |f: &dyn Fn(i32) -> Tick| ticks((0..100).map(f));
+    let row = |before: &Events, counted: Events| Row { before: before.clone(), counted };
+    let none = Events::default();
+    let gains = |i: i32| Gains { kp: 2.0, kd: 0.1, pd: 0.5, vd: 0.0, t: 0.1, p: i as f32 * 0.01, v: 0.2 };
+    let position = |i: i32| Command::Position(i * 23 - 1150, 100);
+    [
+        row(&none, words(&[SHEET[0]; 100])),
+        row(&words(&SHEET[..1]), words(&SHEET[1..14])),
+        row(&words(&SHEET[..14]), words(&SHEET[14..])),
+        row(&none, words(&[SHEET[5]; 100])),
+        row(&none, many(&|_| STILL)),
+        row(&homed, many(&|i| Tick { position: 103 + i, ..STILL })),
+        row(&homed, many(&|i| Tick { command: Command::Torque(i as i16 * 20 - 1000), set: i as u8 & 1, ..STILL })),
+        row(&enabled, many(&|i| Tick { command: position(i), ..STILL })),
+        row(&homed, many(&|i| Tick { command: position(i), ..STILL })),
+        row(&homed, many(&|i| Tick { command: Command::Hybrid(gains(i)), ..STILL })),
+        row(&homed, many(&|_| Tick { command: Command::Homing(100), ..STILL })),
+        row(&enabled, route(1)),
+        row(&enabled.then(&route(1)), many(&|i| homing(101 + i, 0))),
+        row(&enabled.then(&route(1)), ticks([homing(110, HOM)])),
+        row(&enabled.then(&route(4)), ticks([homing(103, 0)])),
+        row(&homed, ticks([Tick { alarm: 1 << 20, ..STILL }])),
+    ]
+}
