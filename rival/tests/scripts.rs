@@ -1,4 +1,4 @@
-//! The scripts beside this crate get the answers beside them.
+//! The scripts of the program crates get the answers beside them.
 
 use std::fs;
 use std::path::Path;
@@ -19,22 +19,13 @@ fn answers(script: &[u8]) -> String {
     answers
 }
 
-fn compare(script: &str, expected: &str) {
-    let home = Path::new(env!("CARGO_MANIFEST_DIR"));
-    let script = fs::read(home.join(script)).expect("the script is there");
-    let expected = fs::read_to_string(home.join(expected)).expect("its answers are there");
-    assert_eq!(answers(&script), expected);
-}
-
 #[test]
-fn rehearsed_examples() {
-    compare("examples.txt", "examples.answers");
-}
-
-#[test]
-fn tastes() {
-    for name in ["rail", "torn", "maximum"] {
-        compare(&format!("taste/{name}.txt"), &format!("taste/{name}.answers"));
+fn scripts_of_the_programs() {
+    let crates = Path::new(env!("CARGO_MANIFEST_DIR")).join("../crates");
+    for name in ["examples", "rail", "torn", "maximum", "show"] {
+        let script = fs::read(crates.join(name).join("stdin")).expect("the script is there");
+        let expected = fs::read_to_string(crates.join(name).join("stdout")).expect("its answers are there");
+        assert_eq!(answers(&script), expected, "{name}");
     }
 }
 

@@ -3,13 +3,13 @@
 // An event is seven words and seven floats, an answer seven words (specs/Words.antt). Signed numbers stand as their 32-bit pattern.
 use answers::Answer;
 use axis::Axis;
-use ticks::Tick;
 use axis::Ticked;
 use commands::Command;
 use hybrid::Hybrid;
 use legs::events::Switches;
 use settings::Settings;
 use settings::Verdict;
+use ticks::Tick;
 use torque::LimitSet;
 ghost use mathlib.Core.Path.{_≡_};
 ghost use Prim.Native.Nat.{_+_, _/_, _%_, _^_, _≤_, min};

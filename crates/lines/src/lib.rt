@@ -3,10 +3,10 @@ mod asked;
 pub mod sheet_line;
 mod tick_line;
 
-use ticks::Tick;
 use scanner::Cursor;
 use scanner::Expected;
 use sheet_line::Writing;
+use ticks::Tick;
 ghost use mathlib.Core.Path.{_≡_};
 ghost use Rattle.lines.specs.Lines.{columnOf, lostAt, freshLine, wordLine, tickLine, sheetLine, kindOf, lineOf};
 

@@ -1,7 +1,7 @@
 // A tick's words: HEX4 COMMAND at I32 SWITCHES STILL SET HEX8.
 use crate::asked;
-use ticks::Tick;
 use scanner::Cursor;
+use ticks::Tick;
 use torque::LimitSet;
 ghost use mathlib.Core.Path.{_≡_};
 ghost use Rattle.lines.specs.Ticks.{setOf, tickRead};

@@ -23,7 +23,7 @@ blank : (text : List ℕ) (w : Span) → eqb (w .start) (length text) ≡ true �
 blank text w e = rw e
 
 worded : (text : List ℕ) (w : Span) → eqb (w .start) (length text) ≡ false
-  → kindIn text (bytesOf text w) (acceptOf startOf w) (refuseOf startOf w expected.Keyword) ≡ kindWith text w
+    → kindIn text (bytesOf text w) (acceptOf startOf w) (refuseOf startOf w expected.Keyword) ≡ kindWith text w
 worded text w e = rw e
 
 next-requires : tie.Need-next-requires
@@ -31,7 +31,7 @@ next-requires c κs = search needs
 
 returns : tie.Need-returns
 unfolding kindOf
-returns c = 
+returns c =
     let t = c .before .before .before .args .text .now in
     let w = c .before .next .result in
     blank t w (eq-eqb _ _ (c .if1 .taken)) ∙ ap (kindWith t) (c .before .next .ensures .0)
@@ -125,7 +125,7 @@ lost-requires c κs = search needs
 
 returns-2 : tie.Need-returns-2
 unfolding kindOf
-returns-2 c = 
+returns-2 c =
     let t = c .before .before .before .before .before .before .before .before .before .before .args .text .now in
     let w = c .before .before .before .before .before .before .before .before .next .result in
     c .settings-word .ensures
@@ -136,7 +136,7 @@ returns-2 c =
 
 returns-3 : tie.Need-returns-3
 unfolding kindOf
-returns-3 c = 
+returns-3 c =
     let t = c .before .before .before .before .before .before .before .before .before .before .before .before .before .before .args .text .now in
     let w = c .before .before .before .before .before .before .before .before .before .before .before .before .next .result in
     c .one-tick .ensures
@@ -147,7 +147,7 @@ returns-3 c =
 
 returns-4 : tie.Need-returns-4
 unfolding kindOf
-returns-4 c = 
+returns-4 c =
     let t = c .before .before .before .before .before .before .before .before .before .before .before .before .before .before .before .before .before .before .args .text .now in
     let w = c .before .before .before .before .before .before .before .before .before .before .before .before .before .before .before .before .next .result in
     c .one-sheet .ensures
@@ -158,7 +158,7 @@ returns-4 c =
 
 returns-5 : tie.Need-returns-5
 unfolding kindOf
-returns-5 c = 
+returns-5 c =
     let t = c .before .before .before .before .before .before .before .before .before .before .before .before .before .before .before .before .before .before .before .before .before .before .args .text .now in
     let w = c .before .before .before .before .before .before .before .before .before .before .before .before .before .before .before .before .before .before .before .before .next .result in
     c .fresh .ensures
@@ -169,7 +169,7 @@ returns-5 c =
 
 returns-6 : tie.Need-returns-6
 unfolding kindOf
-returns-6 c = 
+returns-6 c =
     let t = c .before .before .before .before .before .before .before .before .before .before .before .before .before .before .before .before .before .before .before .before .before .before .before .before .args .text .now in
     let w = c .before .before .before .before .before .before .before .before .before .before .before .before .before .before .before .before .before .before .before .before .before .before .next .result in
     c .lost .ensures

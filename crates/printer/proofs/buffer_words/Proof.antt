@@ -52,13 +52,12 @@ loop-less c = search needs
 loop-again : tie.Need-loop-again Inv-loop μ-loop
 loop-again c =
     let l = c .before .before .before .before .before .before .before .before .before .before .before in
-    let ws = c .before .before .before .before .before .before .before .before .before .before .before .before .before .before .args .buffer .now in
-    (
+    let ws = c .before .before .before .before .before .before .before .before .before .before .before .before .before .before .args .buffer .now in (
       omega arith,
       l .loop .inv .1,
       rw add-one
-      (printed-as (sym (one-more ws (l .loop .i) (omega arith)))
-      (printed-then (l .loop .inv .2) (printed-then (printed-as (l .loop .inv .1) (c .before .before .before .before .before .before .before .text .ensures)) (c .before .before .hexadecimal .ensures)))),
+          (printed-as (sym (one-more ws (l .loop .i) (omega arith)))
+          (printed-then (l .loop .inv .2) (printed-then (printed-as (l .loop .inv .1) (c .before .before .before .before .before .before .before .text .ensures)) (c .before .before .hexadecimal .ensures)))),
     )
 
 same-length : tie.Need-same-length Inv-loop μ-loop

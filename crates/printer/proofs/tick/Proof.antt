@@ -88,7 +88,7 @@ trade-word-requires c κs = search needs
 
 returns : tie.Need-returns
 unfolding tickText
-returns c = 
+returns c =
     let a = c .before .before .before .before .before .before .before .before .before .before .before .before .before .before .before .before .before .before .before .before .before .before .before .before .before .before .before .before .before .before .before .before .before .before .before .before .before .before .before .before .before .before .before .before .before .before .before .before .before .before .before .before .before .before .before .before .before .before .before .before .before .before .before .before .before .before .before .before .before .before .before .before .before .before .before .args .answer in
     let t : SFits w32 (a .torque) = search needs in
     let s : SFits w32 (a .speed) = search needs in

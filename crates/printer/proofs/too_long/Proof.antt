@@ -18,7 +18,7 @@ same-length : tie.Need-same-length
 same-length c = search needs
 
 returns : tie.Need-returns
-returns c = 
+returns c =
     c .before .before .before .before .before .before .before .place .ensures
     ⨾ c .before .before .text .ensures
 

@@ -114,7 +114,7 @@ refuse-requires c κs = search needs
 
 returns : tie.Need-returns
 unfolding commandOf
-returns c = 
+returns c =
     let a = c .before .before .before .before .before .before .before .before .args in
     let t = a .text .now in
     let w = c .before .before .before .before .before .before .next .result in
@@ -125,7 +125,7 @@ returns c =
 
 returns-2 : tie.Need-returns-2
 unfolding commandOf
-returns-2 c = 
+returns-2 c =
     let a = c .before .before .before .before .before .before .before .before .before .before .before .before .args in
     let t = a .text .now in
     let w = c .before .before .before .before .before .before .before .before .before .before .next .result in
@@ -136,7 +136,7 @@ returns-2 c =
 
 returns-3 : tie.Need-returns-3
 unfolding commandOf
-returns-3 c = 
+returns-3 c =
     let a = c .before .before .before .before .before .before .before .before .before .before .before .before .before .before .before .before .args in
     let t = a .text .now in
     let w = c .before .before .before .before .before .before .before .before .before .before .before .before .before .before .next .result in
@@ -147,7 +147,7 @@ returns-3 c =
 
 returns-4 : tie.Need-returns-4
 unfolding commandOf
-returns-4 c = 
+returns-4 c =
     let a = c .before .before .before .before .before .before .before .before .before .before .before .before .before .before .before .before .before .before .before .before .args in
     let t = a .text .now in
     let w = c .before .before .before .before .before .before .before .before .before .before .before .before .before .before .before .before .before .before .next .result in
@@ -158,7 +158,7 @@ returns-4 c =
 
 returns-5 : tie.Need-returns-5
 unfolding commandOf
-returns-5 c = 
+returns-5 c =
     let a = c .before .before .before .before .before .before .before .before .before .before .before .before .before .before .before .before .before .before .before .before .before .before .before .args in
     let t = a .text .now in
     let w = c .before .before .before .before .before .before .before .before .before .before .before .before .before .before .before .before .before .before .before .before .before .next .result in
@@ -168,7 +168,7 @@ returns-5 c =
 
 returns-6 : tie.Need-returns-6
 unfolding commandOf
-returns-6 c = 
+returns-6 c =
     let a = c .before .before .before .before .before .before .before .before .before .before .before .before .before .before .before .before .before .before .before .before .before .before .before .before .args in
     let t = a .text .now in
     let w = c .before .before .before .before .before .before .before .before .before .before .before .before .before .before .before .before .before .before .before .before .before .before .next .result in

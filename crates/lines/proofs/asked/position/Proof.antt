@@ -17,7 +17,7 @@ cast-t7 : tie.Need-cast-t7
 cast-t7 c = search needs
 
 returns : tie.Need-returns
-returns c = 
+returns c =
     let g = c .before .before .before .before .before .before .whole32 in
     let w = c .before .before .before .before .whole16 in
     let p : SFits w32 (g .result .value) = search needs in

@@ -14,7 +14,7 @@ cast-t5 : tie.Need-cast-t5
 cast-t5 c = search needs
 
 returns : tie.Need-returns
-returns c = 
+returns c =
     let w = c .before .before .before .whole16 in
     let q : SFits w32 (w .result .value) = search needs in
     let r : SFits w16 (w .result .value) = record { sfits = w .ensures .1 } in

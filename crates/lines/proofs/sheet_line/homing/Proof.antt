@@ -22,7 +22,7 @@ whole32-requires c κs = search needs
 
 returns : tie.Need-returns
 unfolding homingRead
-returns c = 
+returns c =
     let z0 : SFits w32 (c .before .before .whole32 .result .value) = search needs in
     rw (
       toZ-ofZ z0,

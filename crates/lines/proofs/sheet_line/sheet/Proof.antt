@@ -25,7 +25,7 @@ end-requires c κs = search needs
 
 returns : tie.Need-returns
 unfolding sheetRead
-returns c = 
+returns c =
     let z0 : SFits w32 (c .before .before .before .before .before .before .before .before .homing .result .offset) = search needs in
     let z1 : SFits w32 (c .before .before .before .before .before .before .travel .result .lower) = search needs in
     let z2 : SFits w32 (c .before .before .before .before .before .before .travel .result .upper) = search needs in

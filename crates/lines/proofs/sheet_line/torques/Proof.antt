@@ -28,7 +28,7 @@ unsigned-requires-7 c κs = search needs
 
 returns : tie.Need-returns
 unfolding torquesRead
-returns c = 
+returns c =
     rw (
       c .before .unsigned7 .ensures,
       c .before .before .before .unsigned6 .ensures,

@@ -22,7 +22,7 @@ whole32-requires-2 c κs = search needs
 
 returns : tie.Need-returns
 unfolding travelRead
-returns c = 
+returns c =
     let z0 : SFits w32 (c .before .before .before .before .before .whole32 .result .value) = search needs in
     let z1 : SFits w32 (c .before .before .before .whole322 .result .value) = search needs in
     rw (

@@ -43,7 +43,7 @@ end-requires c κs = search needs
 
 returns : tie.Need-returns
 unfolding tickRead
-returns c = 
+returns c =
     let p : SFits w32 (c .before .before .before .before .before .before .before .before .before .before .before .before .before .before .whole32 .result .value) = search needs in
     rw (
       toZ-ofZ p,

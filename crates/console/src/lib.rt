@@ -1,0 +1,133 @@
+// The program: standard input, cut into lines; each is answered as soon as it has ended.
+use gather::Ended;
+use gather::Held;
+use libc::STDIN_FILENO;
+use libc::STDOUT_FILENO;
+use session::Session;
+ghost use Prim.Native.Nat.{_<_};
+ghost use lib.ListN.{length};
+
+// A session, and the line that has not ended yet.
+struct Console {
+    session: Session,
+    held: Held,
+}
+
+// After a line, or a part of one: where the chunk goes on.
+struct Step {
+    console: Console,
+    next: usize,
+}
+
+// After a read: whether there may be more.
+struct Turn {
+    console: Console,
+    open: bool,
+}
+
+fn nothing_held() -> Held {
+    Held {
+        length: 0,
+        over: false,
+    }
+}
+
+// Answers a line that has ended.
+fn answer(session: Session, line: &[u8], held: Held) -> Session {
+    let mut out = [0u8; 512];
+    match gather::end(line, held) {
+        Ended::Text(n) => {
+            let answered = session.line(&line[..n], &mut out);
+            let written = answered.length;
+            io::write_all(STDOUT_FILENO, &out[..written]);
+            answered.session
+        }
+        Ended::TooLong => {
+            let answered = session.long_line(&mut out);
+            let written = answered.length;
+            io::write_all(STDOUT_FILENO, &out[..written]);
+            answered.session
+        }
+    }
+}
+
+// Takes the chunk's bytes up to the next line's end, and answers that line.
+fn take_line(console: Console, chunk: &[u8], from: usize, line: &mut [u8]) -> Step
+    ensures { λ r. ⌜ (from < length (now (chunk .entry)) → from < r .next) ⌝ }
+{
+    let session = console.session;
+    let before = console.held;
+    let gathered = gather::take(chunk, from, line, before);
+    let held = gathered.held;
+    if gathered.ended {
+        Step {
+            console: Console {
+                session: answer(session, line, held),
+                held: nothing_held(),
+            },
+            next: gathered.next,
+        }
+    } else {
+        Step {
+            console: Console { session, held },
+            next: gathered.next,
+        }
+    }
+}
+
+// Answers each line that ends in the chunk.
+fn serve(console: Console, chunk: &[u8], line: &mut [u8]) -> Console {
+    let mut now = console;
+    let mut i: usize = 0;
+    while i < chunk.len() {
+        let step = take_line(now, chunk, i, line);
+        now = step.console;
+        i = step.next;
+    }
+    now
+}
+
+// Reads once, and answers.
+fn read_once(console: Console, line: &mut [u8]) -> Turn {
+    let mut chunk = io::large_buffer();
+    let got = libc::read(STDIN_FILENO, &mut chunk);
+    let n = io::count(got, &chunk);
+    Turn {
+        console: serve(console, &chunk[..n], line),
+        open: 0 < n,
+    }
+}
+
+// The last line may have no end.
+fn finish(console: Console, line: &[u8]) {
+    let session = console.session;
+    let held = console.held;
+    if 0 < held.length {
+        answer(session, line, held);
+    }
+}
+
+fn reads_left(reads: u64, open: bool) -> u64
+    ensures { λ r. ⌜ (0 < reads → r < reads) ⌝ }
+{
+    if reads == 0 {
+        return 0;
+    }
+    if open { reads - 1 } else { 0 }
+}
+
+// Answers standard input to its end. A proved loop has to end: it counts its reads down from a number that no run uses up.
+pub fn run() {
+    let mut line = [0u8; 256];
+    let mut console = Console {
+        session: Session::fresh(),
+        held: nothing_held(),
+    };
+    let mut reads = u64::MAX;
+    while 0 < reads {
+        let turn = read_once(console, &mut line);
+        console = turn.console;
+        reads = reads_left(reads, turn.open);
+    }
+    finish(console, &line);
+}

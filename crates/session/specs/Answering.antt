@@ -1,0 +1,53 @@
+-- "one line in, one line out, in order": what a line does to the axis, and its answer.
+-- Assumes nothing.
+use Prim.Native.Nat.{ℕ, _+_, _%_, _^_, min}
+use mathlib.Core.List.{List, []}
+use mathlib.Core.Path.{_≡_}
+use lib.ListN.{replicate}
+use Rattle.axis.specs.declared.Axis.{Axis}
+use Rattle.axis.specs.Tick.{freshAxis, tickOf}
+use Rattle.axis.specs.Word.{wordOf}
+use Rattle.lines.specs.declared.Line.{Line}
+use Rattle.lines.specs.declared.Line.the-variants.{Blank, Fresh, Word, Tick, Sheet, Unreadable}
+use Rattle.lines.specs.declared.sheet_line.Writing.{Writing}
+use Rattle.page.specs.Page.{Printed}
+use Rattle.printer.specs.Texts.{freshText, wordText, tickText, sheetText, unreadableText}
+use Rattle.settings.specs.Refusal.{verdictNumber}
+use Rattle.writer.specs.Write.{writeVerdict, written}
+use Rattle.session.specs.declared.Answered.{Answered}
+use Rattle.session.specs.declared.Session.{Session}
+
+-- "LINE counts every line from 1"
+abbrev pub counted : Session → Session
+counted s = record { axis = s .axis; lines = (s .lines + 1) % 2 ^ 64 }
+
+abbrev pub withAxis : Session → Axis → Session
+withAxis s a = record { axis = a; lines = s .lines }
+
+-- "a buffer of LENGTH words that each hold DEADBEEF"; at most 32, a guard, since a line that is read lends no more
+abbrev pub lentOf : Writing → List ℕ
+lentOf w = replicate (min (w .length) 32) 0xDEADBEEF
+
+abbrev pub writtenText : Writing → List ℕ
+writtenText w = sheetText (verdictNumber (writeVerdict (w .settings) (lentOf w))) (written (w .settings) (lentOf w))
+
+-- the axis after a line: "the axis is left alone" by the writer and by what cannot be read
+abbrev pub nextOf : Session → Line → Session
+nextOf s Blank = s
+nextOf s Fresh = withAxis s freshAxis
+nextOf s (Word w) = withAxis s (wordOf (s .axis) w .axis)
+nextOf s (Tick t) = withAxis s (tickOf (s .axis) t .axis)
+nextOf s (Sheet w) = s
+nextOf s (Unreadable t) = s
+
+abbrev pub textOf : Session → Line → List ℕ
+textOf s Blank = []
+textOf s Fresh = freshText
+textOf s (Word w) = wordText (verdictNumber (wordOf (s .axis) w .verdict))
+textOf s (Tick t) = tickText (tickOf (s .axis) t .answer)
+textOf s (Sheet w) = writtenText w
+textOf s (Unreadable t) = unreadableText (s .lines) t
+
+-- a session answers with a text, printed on a page
+abbrev pub Answers : List ℕ → List ℕ → Answered → Session → List ℕ → Type 0
+Answers page page′ r s text = (r .session ≡ s) × Printed page 0 text page′ (r .length)
