@@ -14,7 +14,10 @@ pub mod proved {
     pub struct Phase(u8, u32);
 
     #[repr(C)]
-    pub struct Axis(Active, Pending, u8, u8, u32, Phase, i32, u16, [bool; 4], i32);
+    pub struct Motion(u8, u8, u32, Phase, i32, u16, [bool; 4], i32);
+
+    #[repr(C)]
+    pub struct Axis(Active, Pending, Motion);
 
     #[repr(C)]
     pub struct Answer(u32, i32, i32, i32, u16, i32, u32);
