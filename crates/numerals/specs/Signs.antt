@@ -27,7 +27,7 @@ abbrev pub signedOf : ℕ → List ℕ → Whole
 signedOf half [] = whole.Unreadable
 signedOf half (b ∷ bs) = cond (eqb b 45) (negativeOf half (decimalOf bs)) (positiveOf half (decimalOf (b ∷ bs)))
 
--- a number that is read lies from -half to half - 1
+-- a number that is read lies from -half to half - 1: `mag z` is n for n and for −(n + 1)
 abbrev pub Within : ℕ → Whole → Type 0
 Within half (whole.Value z) = mag z < half
 Within half whole.Unreadable = Unit {0}
