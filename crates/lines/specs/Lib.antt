@@ -1,4 +1,2 @@
-pub mod Asked
-pub mod Ticks
-pub mod Sheets
 pub mod Lines
+pub mod Ticks

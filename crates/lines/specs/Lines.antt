@@ -6,17 +6,19 @@ use mathlib.Core.List.{List}
 use lib.Dec.{eqb}
 use lib.ListN.{length, take}
 use Rattle.bytes.specs.Bytes.{indexOf}
+use Rattle.cursors.specs.Cursor.{startOf, acceptOf, refuseOf, endOf}
+use Rattle.cursors.specs.declared.Cursor.{Cursor}
+use Rattle.cursors.specs.declared.Expected.the-variants as expected
 use Rattle.numerals.specs.Spelling.{spelledOf}
-use Rattle.scanner.specs.Cursor.{startOf, acceptOf, refuseOf}
-use Rattle.scanner.specs.declared.Cursor.{Cursor}
-use Rattle.scanner.specs.declared.Expected.the-variants as expected
-use Rattle.scanner.specs.Readings.{numberOf, endOf}
+use Rattle.scanner.specs.Readings.{numberOf}
+use Rattle.sheets.specs.Sheets.{sheetRead}
 use Rattle.tokens.specs.declared.Span.{Span}
 use Rattle.tokens.specs.Ascii.{ascii, sameOf}
 use Rattle.tokens.specs.Words.{nextOf, bytesOf}
+use Rattle.lines.specs.declared.Keyword.{Keyword}
+use Rattle.lines.specs.declared.Keyword.the-variants as keyword
 use Rattle.lines.specs.declared.Line.{Line}
 use Rattle.lines.specs.declared.Line.the-variants as line
-use Rattle.lines.specs.Sheets.{sheetRead}
 use Rattle.lines.specs.Ticks.{tickRead}
 
 -- "COLUMN, in bytes from 1"; at most 256, a guard, since a line has at most 255 bytes
@@ -44,17 +46,24 @@ tickLine text c = unlessLost (tickRead text c .cursor) (line.Tick (tickRead text
 abbrev pub sheetLine : List ℕ → Cursor → Line
 sheetLine text c = unlessLost (sheetRead text c .cursor) (line.Sheet (sheetRead text c .writing))
 
+abbrev pub openingOf : List ℕ → Keyword
+openingOf word =
+    cond (sameOf word (ascii "word")) keyword.Word
+    (cond (sameOf word (ascii "tick")) keyword.Tick
+    (cond (sameOf word (ascii "sheet")) keyword.Sheet (cond (sameOf word (ascii "fresh")) keyword.Fresh keyword.Other)))
+
 -- a line by its first word; `next` is the cursor past it, `lost` the cursor at it
-abbrev pub kindIn : List ℕ → List ℕ → Cursor → Cursor → Line
-kindIn text word next lost =
-    cond (sameOf word (ascii "word")) (wordLine text next)
-    (cond (sameOf word (ascii "tick")) (tickLine text next)
-    (cond (sameOf word (ascii "sheet")) (sheetLine text next) (cond (sameOf word (ascii "fresh")) (freshLine text next) (lostAt lost))))
+abbrev pub kindIn : List ℕ → Keyword → Cursor → Cursor → Line
+kindIn text keyword.Word next lost = wordLine text next
+kindIn text keyword.Tick next lost = tickLine text next
+kindIn text keyword.Sheet next lost = sheetLine text next
+kindIn text keyword.Fresh next lost = freshLine text next
+kindIn text keyword.Other next lost = lostAt lost
 
 abbrev pub kindWith : List ℕ → Span → Line
 kindWith text place =
     cond (eqb (place .start) (length text)) line.Blank
-    (kindIn text (bytesOf text place) (acceptOf startOf place) (refuseOf startOf place expected.Keyword))
+    (kindIn text (openingOf (bytesOf text place)) (acceptOf startOf place) (refuseOf startOf place expected.Keyword))
 
 unfoldable pub kindOf : List ℕ → Line
 kindOf text = kindWith text (nextOf text 0)

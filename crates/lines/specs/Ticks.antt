@@ -5,13 +5,15 @@ use mathlib.Core.Bool.{Bool, true, false}
 use mathlib.Core.List.{List}
 use Rattle.numerals.specs.Signs.{signedOf}
 use Rattle.numerals.specs.Spelling.{spelledOf}
-use Rattle.scanner.specs.declared.Cursor.{Cursor}
-use Rattle.scanner.specs.declared.Expected.the-variants as expected
-use Rattle.scanner.specs.Readings.{numberOf, wholeOf, atOf, standstillOf, limitSetOf, switchesOf, endOf}
+use Rattle.cursors.specs.declared.Cursor.{Cursor}
+use Rattle.cursors.specs.declared.Expected.the-variants as expected
+use Rattle.choices.specs.Choices.{atOf, standstillOf, limitSetOf, switchesOf}
+use Rattle.cursors.specs.Cursor.{endOf}
+use Rattle.orders.specs.Orders.{commandOf}
+use Rattle.scanner.specs.Readings.{numberOf, wholeOf}
 use Rattle.torque.specs.declared.LimitSet.{LimitSet}
 use Rattle.torque.specs.declared.LimitSet.the-variants.{Set1, Set2}
 use Rattle.lines.specs.declared.tick_line.TickRead.{TickRead}
-use Rattle.lines.specs.Asked.{commandOf}
 
 abbrev pub setOf : Bool → LimitSet
 setOf true = Set1

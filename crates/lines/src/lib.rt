@@ -1,19 +1,26 @@
 // What a line of the program says.
-mod asked;
-pub mod sheet_line;
 mod tick_line;
 
-use scanner::Cursor;
-use scanner::Expected;
-use sheet_line::Writing;
+use cursors::Cursor;
+use cursors::Expected;
+use sheets::Writing;
 use ticks::Tick;
 ghost use mathlib.Core.Path.{_≡_};
-ghost use Rattle.lines.specs.Lines.{columnOf, lostAt, freshLine, wordLine, tickLine, sheetLine, kindOf, lineOf};
+ghost use Rattle.lines.specs.Lines.{columnOf, lostAt, freshLine, wordLine, tickLine, sheetLine, openingOf, kindOf, lineOf};
 
 // A line that cannot be read: the column, from 1, and what was expected there.
 pub struct Trouble {
     pub column: usize,
     pub expected: Expected,
+}
+
+// The words that a line may open with.
+enum Keyword {
+    Word,
+    Tick,
+    Sheet,
+    Fresh,
+    Other,
 }
 
 pub enum Line {
@@ -56,7 +63,7 @@ fn fresh(text: &[u8], cursor: Cursor) -> Line
 fn settings_word(text: &[u8], cursor: Cursor) -> Line
     ensures { λ r. ⌜ r ≡ wordLine (now (text .entry)) cursor ⌝ }
 {
-    let word = cursor.hexadecimal8(text);
+    let word = scanner::hexadecimal8(text, cursor);
     let cursor = word.cursor;
     let cursor = cursor.end(text);
     if cursor.lost {
@@ -82,13 +89,29 @@ fn one_tick(text: &[u8], cursor: Cursor) -> Line
 fn one_sheet(text: &[u8], cursor: Cursor) -> Line
     ensures { λ r. ⌜ r ≡ sheetLine (now (text .entry)) cursor ⌝ }
 {
-    let read = sheet_line::sheet(text, cursor);
+    let read = sheets::sheet(text, cursor);
     let writing = read.writing;
     let cursor = read.cursor;
     if cursor.lost {
         lost(cursor)
     } else {
         Line::Sheet(writing)
+    }
+}
+
+fn opening(word: &[u8]) -> Keyword
+    ensures { λ r. ⌜ r ≡ openingOf (now (word .entry)) ⌝ }
+{
+    if tokens::same(word, b"word") {
+        Keyword::Word
+    } else if tokens::same(word, b"tick") {
+        Keyword::Tick
+    } else if tokens::same(word, b"sheet") {
+        Keyword::Sheet
+    } else if tokens::same(word, b"fresh") {
+        Keyword::Fresh
+    } else {
+        Keyword::Other
     }
 }
 
@@ -102,17 +125,14 @@ fn kind(text: &[u8]) -> Line
     if start == text.len() {
         return Line::Blank;
     }
-    let cursor = Cursor::start().accept(word);
-    if tokens::same(&text[start..end], b"word") {
-        settings_word(text, cursor)
-    } else if tokens::same(&text[start..end], b"tick") {
-        one_tick(text, cursor)
-    } else if tokens::same(&text[start..end], b"sheet") {
-        one_sheet(text, cursor)
-    } else if tokens::same(&text[start..end], b"fresh") {
-        fresh(text, cursor)
-    } else {
-        lost(Cursor::start().refuse(word, Expected::Keyword))
+    let cursor = Cursor::start();
+    let next = cursor.accept(word);
+    match opening(&text[start..end]) {
+        Keyword::Word => settings_word(text, next),
+        Keyword::Tick => one_tick(text, next),
+        Keyword::Sheet => one_sheet(text, next),
+        Keyword::Fresh => fresh(text, next),
+        Keyword::Other => lost(cursor.refuse(word, Expected::Keyword)),
     }
 }
 

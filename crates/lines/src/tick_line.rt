@@ -1,6 +1,5 @@
 // A tick's words: HEX4 COMMAND at I32 SWITCHES STILL SET HEX8.
-use crate::asked;
-use scanner::Cursor;
+use cursors::Cursor;
 use ticks::Tick;
 use torque::LimitSet;
 ghost use mathlib.Core.Path.{_≡_};
@@ -24,22 +23,22 @@ fn limit_set(first: bool) -> LimitSet
 pub fn tick(text: &[u8], cursor: Cursor) -> TickRead
     ensures { λ r. ⌜ r ≡ tickRead (now (text .entry)) cursor ⌝ }
 {
-    let control = cursor.hexadecimal4(text);
+    let control = scanner::hexadecimal4(text, cursor);
     let cursor = control.cursor;
-    let asked = asked::command(text, cursor);
+    let asked = orders::command(text, cursor);
     let command = asked.command;
     let cursor = asked.cursor;
-    let cursor = cursor.at(text);
-    let position = cursor.whole32(text);
+    let cursor = choices::at(text, cursor);
+    let position = scanner::whole32(text, cursor);
     let cursor = position.cursor;
-    let switches = cursor.switches(text);
+    let switches = choices::switches(text, cursor);
     let shown = switches.value;
     let cursor = switches.cursor;
-    let still = cursor.standstill(text);
+    let still = choices::standstill(text, cursor);
     let cursor = still.cursor;
-    let set = cursor.limit_set(text);
+    let set = choices::limit_set(text, cursor);
     let cursor = set.cursor;
-    let alarm = cursor.hexadecimal8(text);
+    let alarm = scanner::hexadecimal8(text, cursor);
     let cursor = alarm.cursor;
     TickRead {
         tick: Tick {

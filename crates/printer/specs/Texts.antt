@@ -1,14 +1,14 @@
 -- Answers as text: "one space between words", and after a number other than 0 two spaces and 01's trade word.
 -- Assumes nothing.
-use Prim.Native.Nat.{ℕ}
+use Prim.Native.Nat.{ℕ, min}
 use mathlib.Core.Bool.{cond}
 use mathlib.Core.List.{List, [], _∷_, _++_}
 use lib.Dec.{eqb}
 use Rattle.answers.specs.declared.Answer.{Answer}
+use Rattle.cursors.specs.declared.Expected.the-variants.{Keyword, Digits, Whole, Float, Command, At, Switches, Standstill, Set, End}
+use Rattle.cursors.specs.declared.Expected.{Expected}
 use Rattle.lines.specs.declared.Trouble.{Trouble}
 use Rattle.numerals.specs.Writing.{decimal, hexadecimal, whole}
-use Rattle.scanner.specs.declared.Expected.{Expected}
-use Rattle.scanner.specs.declared.Expected.the-variants.{Keyword, Digits, Whole, Float, Command, At, Switches, Standstill, Set, End}
 use Rattle.tokens.specs.Ascii.{ascii}
 
 abbrev pub tradeWord : ℕ → List ℕ
@@ -23,6 +23,22 @@ tradeWord n =
     (cond (eqb n 7) (ascii "  axis live\n")
     (cond (eqb n 8) (ascii "  no sheet\n") (ascii "  short buffer\n")))))))))
 
+-- the row of a number in the code's list of trade words, and of what was expected in its list
+abbrev pub tradeRow : ℕ → ℕ
+tradeRow n = min n 9
+
+abbrev pub expectedRow : Expected → ℕ
+expectedRow Keyword = 0
+expectedRow Digits = 1
+expectedRow Whole = 2
+expectedRow Float = 3
+expectedRow Command = 4
+expectedRow At = 5
+expectedRow Switches = 6
+expectedRow Standstill = 7
+expectedRow Set = 8
+expectedRow End = 9
+
 abbrev pub freshText : List ℕ
 freshText = ascii "fresh\n"
 
@@ -31,15 +47,19 @@ abbrev pub wordText : ℕ → List ℕ
 wordText n = ascii "word " ++ decimal n ++ tradeWord n
 
 -- "tick N torque T speed V position P status SSSS mode M alarm A"
+unfoldable pub motionText : Answer → List ℕ
+motionText a =
+    (ascii "tick " ++ decimal (a .number))
+    ++ (ascii " torque " ++ whole (a .torque))
+    ++ (ascii " speed " ++ whole (a .speed))
+    ++ (ascii " position " ++ whole (a .position))
+
 unfoldable pub tickText : Answer → List ℕ
 tickText a =
-    ascii "tick " ++ decimal (a .number)
-    ++ ascii " torque " ++ whole (a .torque)
-    ++ ascii " speed " ++ whole (a .speed)
-    ++ ascii " position " ++ whole (a .position)
+    motionText a
     ++ ascii " status " ++ hexadecimal 4 (a .status)
-    ++ ascii " mode " ++ whole (a .mode)
-    ++ ascii " alarm " ++ decimal (a .alarm)
+    ++ (ascii " mode " ++ whole (a .mode))
+    ++ (ascii " alarm " ++ decimal (a .alarm))
     ++ tradeWord (a .number)
 
 unfoldable pub wordsText : List ℕ → List ℕ
@@ -63,7 +83,7 @@ expectedText Set = ascii " expected set1 or set2\n"
 expectedText End = ascii " expected end of line\n"
 
 abbrev pub placeText : ℕ → ℕ → List ℕ
-placeText line column = ascii "unreadable " ++ decimal line ++ (32 ∷ []) ++ decimal column
+placeText line column = (ascii "unreadable " ++ decimal line) ++ ((32 ∷ []) ++ decimal column)
 
 -- "unreadable LINE COLUMN expected WHAT"
 abbrev pub unreadableText : ℕ → Trouble → List ℕ

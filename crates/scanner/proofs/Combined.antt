@@ -1,11 +1,12 @@
 -- A reading is put together of the next word's place, what its bytes spell, and the cursor's step.
 -- Assumes nothing.
 use Prim.Native.Nat.{ℕ, _≤_, _<_}
-use mathlib.Core.Bool.{Bool, _||_}
 use mathlib.Core.List.{List}
 use mathlib.Core.Path.{_≡_, ap, _∙_}
 use native.Mathlib.Omega.{arith}
 use lib.Signed.{mag}
+use Rattle.cursors.specs.declared.Cursor.{Cursor}
+use Rattle.cursors.specs.declared.Expected.{Expected}
 use Rattle.numerals.specs.declared.Number.{Number}
 use Rattle.numerals.specs.declared.Number.the-variants as number
 use Rattle.numerals.specs.declared.Whole.{Whole}
@@ -13,19 +14,10 @@ use Rattle.numerals.specs.declared.Whole.the-variants as whole
 use Rattle.numerals.specs.Signs.{Within}
 use Rattle.numerals.specs.Spelling.{Below}
 use Rattle.tokens.specs.declared.Span.{Span}
-use Rattle.tokens.specs.Ascii.{sameOf}
 use Rattle.tokens.specs.Words.{nextOf, bytesOf}
-use Rattle.scanner.specs.declared.ChoiceRead.{ChoiceRead}
-use Rattle.scanner.specs.declared.Cursor.{Cursor}
-use Rattle.scanner.specs.declared.Expected.{Expected}
-use Rattle.scanner.specs.declared.Expected.the-variants.{Switches}
 use Rattle.scanner.specs.declared.NumberRead.{NumberRead}
-use Rattle.scanner.specs.declared.Shown.{Shown}
-use Rattle.scanner.specs.declared.SwitchesRead.{SwitchesRead}
 use Rattle.scanner.specs.declared.WholeRead.{WholeRead}
-use Rattle.scanner.specs.Cursor.{judgeOf}
-use Rattle.scanner.specs.Readings.{numberRead, numberOf, wholeRead, wholeOf, choiceOf, switchesOf}
-use Rattle.scanner.specs.Switches.{shownOf}
+use Rattle.scanner.specs.Readings.{numberRead, numberOf, wholeRead, wholeOf}
 
 pub number-at : (spelling : List ℕ → Number) (e : Expected) (text : List ℕ) (c : Cursor) (w : Span) (n : Number) (r : NumberRead)
     → r ≡ numberRead c w e n → n ≡ spelling (bytesOf text w) → w ≡ nextOf text (c .at) → r ≡ numberOf spelling e text c
@@ -48,15 +40,3 @@ whole-at spelling text c w n r p q s = p ∙ ap (wholeRead c w) q ∙ ap (λ v. 
 pub value-within : (half : ℕ) (c : Cursor) (w : Span) (n : Whole) → 0 < half → Within half n → mag (wholeRead c w n .value) < half
 value-within half c w (whole.Value z) p h = h
 value-within half c w whole.Unreadable p h = p
-
-pub choice-at : (first second : List ℕ) (e : Expected) (text : List ℕ) (c : Cursor) (w : Span) (a b : Bool) (r : Cursor)
-    → r ≡ judgeOf c w (a || b) e → a ≡ sameOf (bytesOf text w) first → b ≡ sameOf (bytesOf text w) second → w ≡ nextOf text (c .at)
-    → _≡_ {A = ChoiceRead} (record { value = a; cursor = r }) (choiceOf first second e text c)
-unfolding choiceOf
-choice-at first second e text c w a b r p q s n = rw (p, q, s, n)
-
-pub switches-at : (text : List ℕ) (c : Cursor) (w : Span) (four : Shown) (r : Cursor)
-    → r ≡ judgeOf c w (four .accepted) Switches → four ≡ shownOf (bytesOf text w) → w ≡ nextOf text (c .at)
-    → _≡_ {A = SwitchesRead} (record { value = four .switches; cursor = r }) (switchesOf text c)
-unfolding switchesOf
-switches-at text c w four r p q n = rw (p, q, n)

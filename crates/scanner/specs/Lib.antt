@@ -1,3 +1,1 @@
-pub mod Cursor
 pub mod Readings
-pub mod Switches

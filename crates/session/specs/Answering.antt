@@ -9,7 +9,7 @@ use Rattle.axis.specs.Tick.{freshAxis, tickOf}
 use Rattle.axis.specs.Word.{wordOf}
 use Rattle.lines.specs.declared.Line.{Line}
 use Rattle.lines.specs.declared.Line.the-variants.{Blank, Fresh, Word, Tick, Sheet, Unreadable}
-use Rattle.lines.specs.declared.sheet_line.Writing.{Writing}
+use Rattle.sheets.specs.declared.Writing.{Writing}
 use Rattle.page.specs.Page.{Printed}
 use Rattle.printer.specs.Texts.{freshText, wordText, tickText, sheetText, unreadableText}
 use Rattle.settings.specs.Refusal.{verdictNumber}

@@ -1,7 +1,7 @@
 // The axis that the lines speak to, and the answer to each line.
 use axis::Axis;
 use lines::Line;
-use lines::sheet_line::Writing;
+use sheets::Writing;
 use ticks::Tick;
 ghost use Prim.Native.Nat.{min};
 ghost use mathlib.Core.Path.{_≡_};

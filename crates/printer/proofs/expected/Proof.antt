@@ -1,211 +1,28 @@
--- `printer::expected` meets its contract: an arm a case.
+-- `printer::expected` meets its contract: the row of what was expected.
 -- Assumes nothing.
+use mathlib.Core.Path.{ap, _∙_}
 use Rattle.page.proofs.Printing.{printed-as}
+use Rattle.phrases.specs.Phrases.{nthOf}
+use Rattle.printer.proofs.Rows.{expectations, expected-row}
 use borrow.Author.Needs.{needs}
 use Rattle.printer.proofs.expected.Statement.{statement}
 use Rattle.printer.proofs.expected.Tie as tie
 
-enum-told : tie.Need-enum-told
-enum-told c = search needs
+slice-aggregate-nth : tie.Need-slice-aggregate-nth
+slice-aggregate-nth c = search needs
 
-slice-aggregate-text : tie.Need-slice-aggregate-text
-slice-aggregate-text c = search needs
+expected-row-requires : tie.Need-expected-row-requires
+expected-row-requires c κs = search needs
 
-text-requires : tie.Need-text-requires
-text-requires c κs = search needs
-
-enum-told-2 : tie.Need-enum-told-2
-enum-told-2 c = search needs
-
-slice-aggregate-text-2 : tie.Need-slice-aggregate-text-2
-slice-aggregate-text-2 c = search needs
-
-text-requires-2 : tie.Need-text-requires-2
-text-requires-2 c κs = search needs
-
-enum-told-3 : tie.Need-enum-told-3
-enum-told-3 c = search needs
-
-slice-aggregate-text-3 : tie.Need-slice-aggregate-text-3
-slice-aggregate-text-3 c = search needs
-
-text-requires-3 : tie.Need-text-requires-3
-text-requires-3 c κs = search needs
-
-enum-told-4 : tie.Need-enum-told-4
-enum-told-4 c = search needs
-
-slice-aggregate-text-4 : tie.Need-slice-aggregate-text-4
-slice-aggregate-text-4 c = search needs
-
-text-requires-4 : tie.Need-text-requires-4
-text-requires-4 c κs = search needs
-
-enum-told-5 : tie.Need-enum-told-5
-enum-told-5 c = search needs
-
-slice-aggregate-text-5 : tie.Need-slice-aggregate-text-5
-slice-aggregate-text-5 c = search needs
-
-text-requires-5 : tie.Need-text-requires-5
-text-requires-5 c κs = search needs
-
-enum-told-6 : tie.Need-enum-told-6
-enum-told-6 c = search needs
-
-slice-aggregate-text-6 : tie.Need-slice-aggregate-text-6
-slice-aggregate-text-6 c = search needs
-
-text-requires-6 : tie.Need-text-requires-6
-text-requires-6 c κs = search needs
-
-enum-told-7 : tie.Need-enum-told-7
-enum-told-7 c = search needs
-
-slice-aggregate-text-7 : tie.Need-slice-aggregate-text-7
-slice-aggregate-text-7 c = search needs
-
-text-requires-7 : tie.Need-text-requires-7
-text-requires-7 c κs = search needs
-
-enum-told-8 : tie.Need-enum-told-8
-enum-told-8 c = search needs
-
-slice-aggregate-text-8 : tie.Need-slice-aggregate-text-8
-slice-aggregate-text-8 c = search needs
-
-text-requires-8 : tie.Need-text-requires-8
-text-requires-8 c κs = search needs
-
-enum-told-9 : tie.Need-enum-told-9
-enum-told-9 c = search needs
-
-slice-aggregate-text-9 : tie.Need-slice-aggregate-text-9
-slice-aggregate-text-9 c = search needs
-
-text-requires-9 : tie.Need-text-requires-9
-text-requires-9 c κs = search needs
-
-enum-told-10 : tie.Need-enum-told-10
-enum-told-10 c = search needs
-
-slice-aggregate-text-10 : tie.Need-slice-aggregate-text-10
-slice-aggregate-text-10 c = search needs
-
-text-requires-10 : tie.Need-text-requires-10
-text-requires-10 c κs = search needs
+nth-requires : tie.Need-nth-requires
+nth-requires c κs = search needs
 
 same-length : tie.Need-same-length
 same-length c = search needs
 
 returns : tie.Need-returns
-returns c = printed-as (rw (c .before .before .before .before .before .enum-told .given .1)) (c .before .before .text .ensures)
-
-same-length-2 : tie.Need-same-length-2
-same-length-2 c = search needs
-
-returns-2 : tie.Need-returns-2
-returns-2 c = printed-as (rw (c .before .before .before .before .before .enum-told2 .given .1)) (c .before .before .text2 .ensures)
-
-same-length-3 : tie.Need-same-length-3
-same-length-3 c = search needs
-
-returns-3 : tie.Need-returns-3
-returns-3 c = printed-as (rw (c .before .before .before .before .before .enum-told3 .given .1)) (c .before .before .text3 .ensures)
-
-same-length-4 : tie.Need-same-length-4
-same-length-4 c = search needs
-
-returns-4 : tie.Need-returns-4
-returns-4 c = printed-as (rw (c .before .before .before .before .before .enum-told4 .given .1)) (c .before .before .text4 .ensures)
-
-same-length-5 : tie.Need-same-length-5
-same-length-5 c = search needs
-
-returns-5 : tie.Need-returns-5
-returns-5 c = printed-as (rw (c .before .before .before .before .before .enum-told5 .given .1)) (c .before .before .text5 .ensures)
-
-same-length-6 : tie.Need-same-length-6
-same-length-6 c = search needs
-
-returns-6 : tie.Need-returns-6
-returns-6 c = printed-as (rw (c .before .before .before .before .before .enum-told6 .given .1)) (c .before .before .text6 .ensures)
-
-same-length-7 : tie.Need-same-length-7
-same-length-7 c = search needs
-
-returns-7 : tie.Need-returns-7
-returns-7 c = printed-as (rw (c .before .before .before .before .before .enum-told7 .given .1)) (c .before .before .text7 .ensures)
-
-same-length-8 : tie.Need-same-length-8
-same-length-8 c = search needs
-
-returns-8 : tie.Need-returns-8
-returns-8 c = printed-as (rw (c .before .before .before .before .before .enum-told8 .given .1)) (c .before .before .text8 .ensures)
-
-same-length-9 : tie.Need-same-length-9
-same-length-9 c = search needs
-
-returns-9 : tie.Need-returns-9
-returns-9 c = printed-as (rw (c .before .before .before .before .before .enum-told9 .given .1)) (c .before .before .text9 .ensures)
-
-same-length-10 : tie.Need-same-length-10
-same-length-10 c = search needs
-
-returns-10 : tie.Need-returns-10
-returns-10 c = printed-as (rw (c .before .before .before .before .before .enum-told10 .given .1)) (c .before .before .text10 .ensures)
+returns c = printed-as (ap (λ k. nthOf k expectations) (c .before .before .before .expected-row .ensures) ∙ expected-row (c .before .before .before .before .before .before .before .args .expected)) (c .before .before .nth .ensures)
 
 pub expected-spec : {M : Type 1} → statement M
 expected-spec =
-    tie.close
-    (tie.spec
-    enum-told
-    slice-aggregate-text
-    text-requires
-    enum-told-2
-    slice-aggregate-text-2
-    text-requires-2
-    enum-told-3
-    slice-aggregate-text-3
-    text-requires-3
-    enum-told-4
-    slice-aggregate-text-4
-    text-requires-4
-    enum-told-5
-    slice-aggregate-text-5
-    text-requires-5
-    enum-told-6
-    slice-aggregate-text-6
-    text-requires-6
-    enum-told-7
-    slice-aggregate-text-7
-    text-requires-7
-    enum-told-8
-    slice-aggregate-text-8
-    text-requires-8
-    enum-told-9
-    slice-aggregate-text-9
-    text-requires-9
-    enum-told-10
-    slice-aggregate-text-10
-    text-requires-10
-    same-length
-    returns
-    same-length-2
-    returns-2
-    same-length-3
-    returns-3
-    same-length-4
-    returns-4
-    same-length-5
-    returns-5
-    same-length-6
-    returns-6
-    same-length-7
-    returns-7
-    same-length-8
-    returns-8
-    same-length-9
-    returns-9
-    same-length-10
-    returns-10)
+    tie.close (tie.spec slice-aggregate-nth expected-row-requires nth-requires same-length returns)

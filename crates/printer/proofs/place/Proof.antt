@@ -1,47 +1,35 @@
--- `printer::place` meets its contract.
+-- `printer::place` meets its contract: part after part.
 -- Assumes nothing.
 use Rattle.page.proofs.Printing.{_⨾_}
 use borrow.Author.Needs.{needs}
 use Rattle.printer.proofs.place.Statement.{statement}
 use Rattle.printer.proofs.place.Tie as tie
 
-slice-aggregate-text : tie.Need-slice-aggregate-text
-slice-aggregate-text c = search needs
+slice-aggregate-count : tie.Need-slice-aggregate-count
+slice-aggregate-count c = search needs
 
-text-requires : tie.Need-text-requires
-text-requires c κs = search needs
+count-requires : tie.Need-count-requires
+count-requires c κs = search needs
 
-decimal-requires : tie.Need-decimal-requires
-decimal-requires c κs = search needs
+slice-aggregate-count-2 : tie.Need-slice-aggregate-count-2
+slice-aggregate-count-2 c = search needs
 
-slice-aggregate-text-2 : tie.Need-slice-aggregate-text-2
-slice-aggregate-text-2 c = search needs
-
-text-requires-2 : tie.Need-text-requires-2
-text-requires-2 c κs = search needs
-
-decimal-requires-2 : tie.Need-decimal-requires-2
-decimal-requires-2 c κs = search needs
+count-requires-2 : tie.Need-count-requires-2
+count-requires-2 c κs = search needs
 
 same-length : tie.Need-same-length
 same-length c = search needs
 
 returns : tie.Need-returns
-returns c =
-    c .before .before .before .before .before .before .before .before .before .before .before .before .before .before .before .text .ensures
-    ⨾ c .before .before .before .before .before .before .before .before .before .before .before .decimal .ensures
-    ⨾ c .before .before .before .before .before .before .text2 .ensures
-    ⨾ c .before .before .decimal2 .ensures
+returns c = c .before .before .before .before .before .before .before .count .ensures ⨾ c .before .before .count2 .ensures
 
 pub place-spec : {M : Type 1} → statement M
 place-spec =
     tie.close
     (tie.spec
-    slice-aggregate-text
-    text-requires
-    decimal-requires
-    slice-aggregate-text-2
-    text-requires-2
-    decimal-requires-2
+    slice-aggregate-count
+    count-requires
+    slice-aggregate-count-2
+    count-requires-2
     same-length
     returns)

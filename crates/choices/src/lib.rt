@@ -1,0 +1,122 @@
+// Words of a tick that are one of a few: `at`, `still` or `moving`, `set1` or `set2`, and the switches.
+use cursors::Cursor;
+use cursors::Expected;
+use legs::events::Switches;
+ghost use mathlib.Core.Path.{_≡_};
+ghost use Rattle.choices.specs.Choices.{atOf, choiceOf, standstillOf, limitSetOf, switchesOf};
+ghost use Rattle.choices.specs.Switches.{switchOk, shownOf};
+
+// Values read, each of no meaning where the cursor is lost.
+pub struct SwitchesRead {
+    pub value: Switches,
+    pub cursor: Cursor,
+}
+
+pub struct ChoiceRead {
+    pub value: bool,
+    pub cursor: Cursor,
+}
+
+// Switches as a word shows them, if it does.
+pub struct Shown {
+    pub accepted: bool,
+    pub switches: Switches,
+}
+
+// Whether a switch's byte is its letter or `-`.
+fn switch_ok(byte: u8, letter: u8) -> bool
+    ensures { λ r. ⌜ r ≡ switchOk byte letter ⌝ }
+{
+    (byte == letter) | (byte == b'-')
+}
+
+fn four_switches(word: &[u8]) -> Shown
+    ensures { λ r. ⌜ r ≡ shownOf (now (word .entry)) ⌝ }
+{
+    if word.len() == 4 {
+        let positive = word[0];
+        let negative = word[1];
+        let home = word[2];
+        let index = word[3];
+        Shown {
+            accepted: switch_ok(positive, b'P')
+                & switch_ok(negative, b'N')
+                & switch_ok(home, b'H')
+                & switch_ok(index, b'Z'),
+            switches: Switches {
+                positive: positive == b'P',
+                negative: negative == b'N',
+                home: home == b'H',
+                index: index == b'Z',
+            },
+        }
+    } else {
+        Shown {
+            accepted: false,
+            switches: Switches {
+                positive: false,
+                negative: false,
+                home: false,
+                index: false,
+            },
+        }
+    }
+}
+
+// The word `at`.
+pub fn at(text: &[u8], cursor: Cursor) -> Cursor
+    ensures { λ r. ⌜ r ≡ atOf (now (text .entry)) cursor ⌝ }
+{
+    let word = tokens::next(text, cursor.at);
+    let start = word.start;
+    let end = word.end;
+    cursor.judge(word, tokens::same(&text[start..end], b"at"), Expected::At)
+}
+
+// One of two words; true for the first.
+fn choice(
+    text: &[u8],
+    cursor: Cursor,
+    first: &[u8],
+    second: &[u8],
+    expected: Expected,
+) -> ChoiceRead
+    ensures { λ r. ⌜ r ≡ choiceOf (now (first .entry)) (now (second .entry)) expected (now (text .entry)) cursor ⌝ }
+{
+    let word = tokens::next(text, cursor.at);
+    let start = word.start;
+    let end = word.end;
+    let is_first = tokens::same(&text[start..end], first);
+    let is_second = tokens::same(&text[start..end], second);
+    ChoiceRead {
+        value: is_first,
+        cursor: cursor.judge(word, is_first | is_second, expected),
+    }
+}
+
+pub fn standstill(text: &[u8], cursor: Cursor) -> ChoiceRead
+    ensures { λ r. ⌜ r ≡ standstillOf (now (text .entry)) cursor ⌝ }
+{
+    choice(text, cursor, b"still", b"moving", Expected::Standstill)
+}
+
+pub fn limit_set(text: &[u8], cursor: Cursor) -> ChoiceRead
+    ensures { λ r. ⌜ r ≡ limitSetOf (now (text .entry)) cursor ⌝ }
+{
+    choice(text, cursor, b"set1", b"set2", Expected::Set)
+}
+
+// POT, NOT, HOM and Z, each as its letter or `-`.
+pub fn switches(text: &[u8], cursor: Cursor) -> SwitchesRead
+    ensures { λ r. ⌜ r ≡ switchesOf (now (text .entry)) cursor ⌝ }
+{
+    let word = tokens::next(text, cursor.at);
+    let start = word.start;
+    let end = word.end;
+    let seen = four_switches(&text[start..end]);
+    let switches = seen.switches;
+    SwitchesRead {
+        value: switches,
+        cursor: cursor.judge(word, seen.accepted, Expected::Switches),
+    }
+}

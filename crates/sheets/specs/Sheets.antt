@@ -1,0 +1,81 @@
+-- "sheet LENGTH METHOD FAST SLOW OFFSET NUM DEN LOWER UPPER MAX P1 N1 P2 N2 OPTION RATED"; "OFFSET, LOWER and UPPER are I32; the others U32"
+-- Assumes nothing.
+use Prim.Native.Nat.{ℕ, _^_}
+use mathlib.Core.List.{List}
+use Rattle.numerals.specs.Signs.{signedOf}
+use Rattle.numerals.specs.Spelling.{unsigned32Of, lengthOf}
+use Rattle.cursors.specs.declared.Cursor.{Cursor}
+use Rattle.cursors.specs.declared.Expected.the-variants as expected
+use Rattle.scanner.specs.declared.NumberRead.{NumberRead}
+use Rattle.scanner.specs.declared.WholeRead.{WholeRead}
+use Rattle.cursors.specs.Cursor.{endOf}
+use Rattle.scanner.specs.Readings.{numberOf, wholeOf}
+use Rattle.sheets.specs.declared.HomingRead.{HomingRead}
+use Rattle.sheets.specs.declared.TravelRead.{TravelRead}
+use Rattle.sheets.specs.declared.TorquesRead.{TorquesRead}
+use Rattle.sheets.specs.declared.WritingRead.{WritingRead}
+
+abbrev unsignedAt : List ℕ → Cursor → NumberRead
+unsignedAt text c = numberOf unsigned32Of expected.Whole text c
+
+abbrev wholeAt : List ℕ → Cursor → WholeRead
+wholeAt text c = wholeOf (signedOf (2 ^ 31)) text c
+
+unfoldable pub homingRead : List ℕ → Cursor → HomingRead
+homingRead text c =
+    let method = unsignedAt text c in
+    let fast = unsignedAt text (method .cursor) in
+    let slow = unsignedAt text (fast .cursor) in
+    let offset = wholeAt text (slow .cursor) in
+    record { method = method .value; fast = fast .value; slow = slow .value; offset = offset .value; cursor = offset .cursor }
+
+unfoldable pub travelRead : List ℕ → Cursor → TravelRead
+travelRead text c =
+    let numerator = unsignedAt text c in
+    let denominator = unsignedAt text (numerator .cursor) in
+    let lower = wholeAt text (denominator .cursor) in
+    let upper = wholeAt text (lower .cursor) in
+    record { numerator = numerator .value; denominator = denominator .value; lower = lower .value; upper = upper .value; cursor = upper .cursor }
+
+unfoldable pub torquesRead : List ℕ → Cursor → TorquesRead
+torquesRead text c =
+    let maximum = unsignedAt text c in
+    let positive1 = unsignedAt text (maximum .cursor) in
+    let negative1 = unsignedAt text (positive1 .cursor) in
+    let positive2 = unsignedAt text (negative1 .cursor) in
+    let negative2 = unsignedAt text (positive2 .cursor) in
+    let option = unsignedAt text (negative2 .cursor) in
+    let rated = unsignedAt text (option .cursor) in
+    record { maximum = maximum .value; positive1 = positive1 .value; negative1 = negative1 .value; positive2 = positive2 .value; negative2 = negative2 .value; option = option .value; rated = rated .value; cursor = rated .cursor }
+
+unfoldable pub sheetRead : List ℕ → Cursor → WritingRead
+sheetRead text c =
+    let length = numberOf lengthOf expected.Whole text c in
+    let homing = homingRead text (length .cursor) in
+    let travel = travelRead text (homing .cursor) in
+    let torques = torquesRead text (travel .cursor) in
+    record {
+      writing =
+          record {
+            length = length .value;
+            settings =
+                record {
+                  method = homing .method;
+                  fast = homing .fast;
+                  slow = homing .slow;
+                  offset = homing .offset;
+                  numerator = travel .numerator;
+                  denominator = travel .denominator;
+                  lower = travel .lower;
+                  upper = travel .upper;
+                  maximum = torques .maximum;
+                  positive1 = torques .positive1;
+                  negative1 = torques .negative1;
+                  positive2 = torques .positive2;
+                  negative2 = torques .negative2;
+                  option = torques .option;
+                  rated = torques .rated;
+                };
+          };
+      cursor = endOf text (torques .cursor);
+    }
