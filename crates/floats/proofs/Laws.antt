@@ -14,9 +14,9 @@ use lib.ListN.{length, take, drop, getD, length-drop}
 use lib.Pow.{pow-add}
 use lib.Seq.{take-all}
 use Rattle.bytes.specs.Bytes.{indexOf}
-use Rattle.numerals.specs.declared.Number.the-variants.{Value}
-use Rattle.numerals.specs.Spelling.{decimalOf, Below}
-use Rattle.numerals.proofs.Reach.{digits-below}
+use Rattle.spelling.specs.declared.Number.the-variants.{Value}
+use Rattle.spelling.specs.Spelling.{decimalOf, Below}
+use Rattle.spelling.proofs.Reach.{digits-below}
 use Rattle.floats.specs.declared.Float.the-variants as float
 use Rattle.floats.specs.Literal.{eightOf, withoutPoint, withPoint, unsignedOf, negatedOf, floatOf}
 

@@ -9,9 +9,9 @@ use lib.Ieee.{binary32, ofBits, ofInt, div, neg}
 use lib.IntN.{pos}
 use lib.ListN.{length, take, drop}
 use Rattle.bytes.specs.Bytes.{indexOf}
-use Rattle.numerals.specs.declared.Number.{Number}
-use Rattle.numerals.specs.declared.Number.the-variants as number
-use Rattle.numerals.specs.Spelling.{spelledOf, decimalOf}
+use Rattle.spelling.specs.declared.Number.{Number}
+use Rattle.spelling.specs.declared.Number.the-variants as number
+use Rattle.spelling.specs.Spelling.{spelledOf, decimalOf}
 use Rattle.floats.specs.declared.Float.{Float}
 use Rattle.floats.specs.declared.Float.the-variants.{Value, Unreadable}
 

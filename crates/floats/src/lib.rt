@@ -1,5 +1,5 @@
 // Single floats as text, in ASCII: `x` and eight hexadecimal digits, the pattern, or a decimal.
-use numerals::Number;
+use spelling::Number;
 ghost use Prim.Native.Nat.{_^_, _≤_};
 ghost use mathlib.Core.Path.{_≡_};
 ghost use lib.Ieee.{binary32, ofBits};
@@ -27,7 +27,7 @@ fn eight(text: &[u8]) -> Float
     ensures { λ r. ⌜ r ≡ eightOf (now (text .entry)) ⌝ }
 {
     if text.len() == 8 {
-        match numerals::hexadecimal8(text) {
+        match spelling::hexadecimal8(text) {
             Number::Value(n) => Float::Value(of_bits(n as u32)),
             Number::Unreadable => Float::Unreadable,
         }
@@ -63,7 +63,7 @@ fn without_point(text: &[u8]) -> Float
     if 9 < text.len() {
         return Float::Unreadable;
     }
-    match numerals::decimal(text) {
+    match spelling::decimal(text) {
         Number::Value(n) => Float::Value(quotient(n as u32, 1)),
         Number::Unreadable => Float::Unreadable,
     }
@@ -80,10 +80,10 @@ fn with_point(whole: &[u8], fraction: &[u8]) -> Float
         return Float::Unreadable;
     }
     let power = power_of_ten(fraction.len());
-    let Number::Value(n) = numerals::decimal(whole) else {
+    let Number::Value(n) = spelling::decimal(whole) else {
         return Float::Unreadable;
     };
-    let Number::Value(m) = numerals::decimal(fraction) else {
+    let Number::Value(m) = spelling::decimal(fraction) else {
         return Float::Unreadable;
     };
     Float::Value(quotient(n as u32 * power + m as u32, power))

@@ -9,7 +9,7 @@ use Rattle.bytes.specs.Bytes.{indexOf}
 use Rattle.cursors.specs.Cursor.{startOf, acceptOf, refuseOf, endOf}
 use Rattle.cursors.specs.declared.Cursor.{Cursor}
 use Rattle.cursors.specs.declared.Expected.the-variants as expected
-use Rattle.numerals.specs.Spelling.{spelledOf}
+use Rattle.spelling.specs.Spelling.{spelledOf}
 use Rattle.scanner.specs.Readings.{numberOf}
 use Rattle.sheets.specs.Sheets.{sheetRead}
 use Rattle.tokens.specs.declared.Span.{Span}

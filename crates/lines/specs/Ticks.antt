@@ -4,7 +4,7 @@ use Prim.Native.Nat.{ℕ, _^_}
 use mathlib.Core.Bool.{Bool, true, false}
 use mathlib.Core.List.{List}
 use Rattle.numerals.specs.Signs.{signedOf}
-use Rattle.numerals.specs.Spelling.{spelledOf}
+use Rattle.spelling.specs.Spelling.{spelledOf}
 use Rattle.cursors.specs.declared.Cursor.{Cursor}
 use Rattle.cursors.specs.declared.Expected.the-variants as expected
 use Rattle.choices.specs.Choices.{atOf, standstillOf, limitSetOf, switchesOf}

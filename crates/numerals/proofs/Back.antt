@@ -11,14 +11,15 @@ use lib.Dec.{ltb}
 use lib.IntN.{ℤ, pos, negsuc}
 use lib.ListN.{length, getD, length-append}
 use lib.Signed.{mag}
-use Rattle.numerals.specs.declared.Number.the-variants.{Value, Unreadable}
+use Rattle.spelling.specs.declared.Number.the-variants.{Value, Unreadable}
 use Rattle.numerals.specs.declared.Whole.the-variants as whole
 use Rattle.numerals.specs.Signs.{positiveOf, negativeOf, signedOf}
-use Rattle.numerals.specs.Spelling.{digitOf, spelledFrom, spelledOf, decimalOf, belowOf, unsigned32Of, lengthOf}
+use Rattle.numerals.specs.Limits.{belowOf, unsigned32Of, lengthOf}
+use Rattle.spelling.specs.Spelling.{digitOf, spelledFrom, spelledOf, decimalOf}
 use Rattle.numerals.specs.Writing.{glyph, hexadecimal, digits, decimal}
 use Rattle.numerals.specs.Writing.{whole as written}
-use Rattle.numerals.proofs.Digits.{numeral, capital}
-use Rattle.numerals.proofs.Reach.{within}
+use Rattle.spelling.proofs.Digits.{numeral, capital}
+use Rattle.spelling.proofs.Reach.{within}
 use Rattle.numerals.proofs.Signs.{no-minus}
 
 -- ---- one digit

@@ -1,4 +1,2 @@
-pub mod Digits
-pub mod Reach
 pub mod Signs
 pub mod Back

@@ -10,12 +10,12 @@ use lib.Dec.{eqb, leb, ltb}
 use lib.IntN.{pos, negℤ}
 use lib.ListN.{length, drop, getD}
 use lib.Signed.{mag}
-use Rattle.numerals.specs.declared.Number.{Number}
-use Rattle.numerals.specs.declared.Number.the-variants.{Value, Unreadable}
+use Rattle.spelling.specs.declared.Number.{Number}
+use Rattle.spelling.specs.declared.Number.the-variants.{Value, Unreadable}
 use Rattle.numerals.specs.declared.Whole.{Whole}
 use Rattle.numerals.specs.declared.Whole.the-variants as whole
 use Rattle.numerals.specs.Signs.{positiveOf, negativeOf, signedOf, Within}
-use Rattle.numerals.specs.Spelling.{decimalOf}
+use Rattle.spelling.specs.Spelling.{decimalOf}
 
 pub no-text : (half : ℕ) (bs : List ℕ) → length bs ≡ 0 → signedOf half bs ≡ whole.Unreadable
 no-text half [] e = refl

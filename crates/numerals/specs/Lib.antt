@@ -1,3 +1,3 @@
-pub mod Spelling
+pub mod Limits
 pub mod Signs
 pub mod Writing

@@ -1,12 +1,10 @@
 // Text appended to a page at a place; the place after it is answered. What does not fit is cut off.
-ghost use Prim.Native.Nat.{_<_};
 ghost use mathlib.Core.Path.{_≡_};
 ghost use mathlib.Core.List.{_∷_, []};
-ghost use Rattle.numerals.specs.Writing as writing;
 ghost use Rattle.page.specs.Page.{Printed};
 
 // One byte; nothing where the page is full.
-fn byte(out: &mut [u8], at: usize, byte: u8) -> usize
+pub fn byte(out: &mut [u8], at: usize, byte: u8) -> usize
     ensures { λ r. ⌜ Printed (now (out .entry)) at (byte ∷ []) (now (out .exit)) r ⌝ }
 {
     if at < out.len() {
@@ -27,60 +25,4 @@ pub fn text(out: &mut [u8], at: usize, text: &[u8]) -> usize
         i += 1;
     }
     end
-}
-
-// A digit below 16, in upper case.
-fn glyph(digit: u64) -> u8
-    requires { ⌜ digit < 16 ⌝ }
-    ensures { λ r. ⌜ r ≡ writing.glyph digit ⌝ }
-{
-    if digit < 10 {
-        48 + digit as u8
-    } else {
-        55 + digit as u8
-    }
-}
-
-// The last `places` hexadecimal digits.
-pub fn hexadecimal(out: &mut [u8], at: usize, number: u64, places: usize) -> usize
-    ensures { λ r. ⌜ Printed (now (out .entry)) at (writing.hexadecimal places number) (now (out .exit)) r ⌝ }
-{
-    if places == 0 {
-        return at;
-    }
-    let end = hexadecimal(out, at, number / 16, places - 1);
-    byte(out, end, glyph(number % 16))
-}
-
-// The decimal digits of a number, at most `places` of them.
-fn digits(out: &mut [u8], at: usize, number: u64, places: usize) -> usize
-    ensures { λ r. ⌜ Printed (now (out .entry)) at (writing.digits places number) (now (out .exit)) r ⌝ }
-{
-    if places == 0 {
-        return at;
-    }
-    if number < 10 {
-        return byte(out, at, glyph(number));
-    }
-    let end = digits(out, at, number / 10, places - 1);
-    byte(out, end, glyph(number % 10))
-}
-
-// A number in decimal: 20 digits hold every one.
-pub fn decimal(out: &mut [u8], at: usize, number: u64) -> usize
-    ensures { λ r. ⌜ Printed (now (out .entry)) at (writing.decimal number) (now (out .exit)) r ⌝ }
-{
-    digits(out, at, number, 20)
-}
-
-// A signed number in decimal.
-pub fn whole(out: &mut [u8], at: usize, number: i32) -> usize
-    ensures { λ r. ⌜ Printed (now (out .entry)) at (writing.whole number) (now (out .exit)) r ⌝ }
-{
-    if number < 0 {
-        let end = byte(out, at, b'-');
-        decimal(out, end, (0 - number as i64) as u64)
-    } else {
-        decimal(out, at, number as u64)
-    }
 }

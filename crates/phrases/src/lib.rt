@@ -11,14 +11,14 @@ pub fn count(out: &mut [u8], at: usize, name: &[u8], number: u64) -> usize
     ensures { λ r. ⌜ Printed (now (out .entry)) at (now (name .entry) ++ writing.decimal number) (now (out .exit)) r ⌝ }
 {
     let at = page::text(out, at, name);
-    page::decimal(out, at, number)
+    figures::decimal(out, at, number)
 }
 
 pub fn whole(out: &mut [u8], at: usize, name: &[u8], number: i32) -> usize
     ensures { λ r. ⌜ Printed (now (out .entry)) at (now (name .entry) ++ writing.whole number) (now (out .exit)) r ⌝ }
 {
     let at = page::text(out, at, name);
-    page::whole(out, at, number)
+    figures::whole(out, at, number)
 }
 
 // One past the phrase that starts at `from`.

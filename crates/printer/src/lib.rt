@@ -64,7 +64,7 @@ pub fn tick(out: &mut [u8], answer: Answer) -> usize
 {
     let at = motion(out, answer);
     let at = page::text(out, at, b" status ");
-    let at = page::hexadecimal(out, at, answer.status as u64, 4);
+    let at = figures::hexadecimal(out, at, answer.status as u64, 4);
     let at = phrases::whole(out, at, b" mode ", answer.mode);
     let at = phrases::count(out, at, b" alarm ", answer.alarm as u64);
     trade_word(out, at, answer.number)
@@ -77,7 +77,7 @@ fn buffer_words(out: &mut [u8], at: usize, buffer: &[u32]) -> usize
     let mut i: usize = 0;
     while i < buffer.len() {
         end = page::text(out, end, b" ");
-        end = page::hexadecimal(out, end, buffer[i] as u64, 8);
+        end = figures::hexadecimal(out, end, buffer[i] as u64, 8);
         i += 1;
     }
     end

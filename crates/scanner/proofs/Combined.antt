@@ -7,12 +7,12 @@ use native.Mathlib.Omega.{arith}
 use lib.Signed.{mag}
 use Rattle.cursors.specs.declared.Cursor.{Cursor}
 use Rattle.cursors.specs.declared.Expected.{Expected}
-use Rattle.numerals.specs.declared.Number.{Number}
-use Rattle.numerals.specs.declared.Number.the-variants as number
+use Rattle.spelling.specs.declared.Number.{Number}
+use Rattle.spelling.specs.declared.Number.the-variants as number
 use Rattle.numerals.specs.declared.Whole.{Whole}
 use Rattle.numerals.specs.declared.Whole.the-variants as whole
 use Rattle.numerals.specs.Signs.{Within}
-use Rattle.numerals.specs.Spelling.{Below}
+use Rattle.spelling.specs.Spelling.{Below}
 use Rattle.tokens.specs.declared.Span.{Span}
 use Rattle.tokens.specs.Words.{nextOf, bytesOf}
 use Rattle.scanner.specs.declared.NumberRead.{NumberRead}

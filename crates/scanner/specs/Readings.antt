@@ -11,8 +11,8 @@ use Rattle.cursors.specs.declared.Expected.the-variants as expected
 use Rattle.floats.specs.declared.Float.{Float}
 use Rattle.floats.specs.declared.Float.the-variants as float
 use Rattle.floats.specs.Literal.{floatOf}
-use Rattle.numerals.specs.declared.Number.{Number}
-use Rattle.numerals.specs.declared.Number.the-variants as number
+use Rattle.spelling.specs.declared.Number.{Number}
+use Rattle.spelling.specs.declared.Number.the-variants as number
 use Rattle.numerals.specs.declared.Whole.{Whole}
 use Rattle.numerals.specs.declared.Whole.the-variants as whole
 use Rattle.tokens.specs.declared.Span.{Span}

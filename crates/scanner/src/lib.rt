@@ -2,14 +2,15 @@
 use cursors::Cursor;
 use cursors::Expected;
 use floats::Float;
-use numerals::Number;
+use spelling::Number;
 use numerals::Whole;
 use tokens::Span;
 ghost use Prim.Native.Nat.{_<_, _^_};
 ghost use mathlib.Core.Path.{_≡_};
 ghost use lib.Signed.{mag};
 ghost use Rattle.numerals.specs.Signs.{signedOf};
-ghost use Rattle.numerals.specs.Spelling.{spelledOf, unsigned32Of, lengthOf, Below};
+ghost use Rattle.numerals.specs.Limits.{unsigned32Of, lengthOf};
+ghost use Rattle.spelling.specs.Spelling.{spelledOf, Below};
 ghost use Rattle.scanner.specs.Readings.{numberRead, numberOf, wholeRead, wholeOf, floatRead, floatAt};
 
 // Values read, each of no meaning where the cursor is lost.
@@ -71,7 +72,7 @@ pub fn hexadecimal4(text: &[u8], cursor: Cursor) -> NumberRead
         cursor,
         word,
         Expected::Digits,
-        numerals::hexadecimal4(&text[start..end]),
+        spelling::hexadecimal4(&text[start..end]),
     )
 }
 
@@ -86,7 +87,7 @@ pub fn hexadecimal8(text: &[u8], cursor: Cursor) -> NumberRead
         cursor,
         word,
         Expected::Digits,
-        numerals::hexadecimal8(&text[start..end]),
+        spelling::hexadecimal8(&text[start..end]),
     )
 }
 

@@ -3,7 +3,7 @@
 use Prim.Native.Nat.{ℕ, _^_}
 use mathlib.Core.List.{List}
 use Rattle.numerals.specs.Signs.{signedOf}
-use Rattle.numerals.specs.Spelling.{unsigned32Of, lengthOf}
+use Rattle.numerals.specs.Limits.{unsigned32Of, lengthOf}
 use Rattle.cursors.specs.declared.Cursor.{Cursor}
 use Rattle.cursors.specs.declared.Expected.the-variants as expected
 use Rattle.scanner.specs.declared.NumberRead.{NumberRead}

@@ -4,7 +4,7 @@ use Prim.Native.Nat.{_^_, _<_}
 use mathlib.Core.Path.{sym, subst, _∙_}
 use native.Mathlib.Omega.{arith}
 use borrow.Author.Tests.{eq-eqb, ne-eqb}
-use Rattle.numerals.specs.Spelling.{Below}
+use Rattle.spelling.specs.Spelling.{Below}
 use borrow.Author.Needs.{needs}
 use Rattle.floats.proofs.eight.Statement.{statement}
 use Rattle.floats.proofs.eight.Tie as tie

@@ -6,7 +6,7 @@ use native.Mathlib.Omega.{arith}
 use lib.ListN.{length, drop, length-drop}
 use lib.Seq.{take-all}
 use Rattle.numerals.specs.Signs.{positiveOf, negativeOf}
-use Rattle.numerals.specs.Spelling.{decimalOf}
+use Rattle.spelling.specs.Spelling.{decimalOf}
 use Rattle.numerals.proofs.Signs.{no-text, minus-first, no-minus}
 use borrow.Author.Needs.{needs}
 use Rattle.numerals.proofs.signed.Statement.{statement}

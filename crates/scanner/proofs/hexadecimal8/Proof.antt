@@ -1,6 +1,6 @@
 -- `scanner::hexadecimal8` meets its contract.
 -- Assumes nothing.
-use Rattle.numerals.specs.Spelling.{spelledOf}
+use Rattle.spelling.specs.Spelling.{spelledOf}
 use Rattle.cursors.specs.declared.Expected.the-variants.{Digits}
 use Rattle.scanner.proofs.Combined.{number-at}
 use borrow.Author.Needs.{needs}

@@ -3,7 +3,7 @@
 use Prim.Native.Nat.{_^_, _<_}
 use mathlib.Core.Path.{subst}
 use native.Mathlib.Omega.{arith}
-use Rattle.numerals.specs.Spelling.{Below}
+use Rattle.spelling.specs.Spelling.{Below}
 use borrow.Author.Needs.{needs}
 use Rattle.scanner.proofs.number.Statement.{statement}
 use Rattle.scanner.proofs.number.Tie as tie

@@ -1,6 +1,6 @@
 -- `scanner::unsigned` meets its contract.
 -- Assumes nothing.
-use Rattle.numerals.specs.Spelling.{unsigned32Of}
+use Rattle.numerals.specs.Limits.{unsigned32Of}
 use Rattle.cursors.specs.declared.Expected.the-variants.{Whole}
 use Rattle.scanner.proofs.Combined.{number-at}
 use borrow.Author.Needs.{needs}

@@ -7,17 +7,17 @@ use native.Mathlib.Omega.{arith}
 use borrow.Author.Needs.{needs}
 use Rattle.numerals.specs.Writing.{glyph}
 use Rattle.numerals.specs.Writing.{hexadecimal as writing}
-use Rattle.page.proofs.Last.{no-hexadecimal, last-hexadecimal}
+use Rattle.figures.proofs.Last.{no-hexadecimal, last-hexadecimal}
 use Rattle.page.proofs.Printing.{printed-nothing, _⨾_, printed-as}
 use borrow.Fn.Kinds.{In}
 use borrow.Fn.PlainCycle.{Measures, is, falls, and}
-use Rattle.page.proofs.hexadecimal.Reads as hexadecimal
-use Rattle.page.proofs.hexadecimal.Kinds as hexadecimal-kinds
-use Rattle.page.proofs.+hexadecimal.Lts-hexadecimal as hexadecimal-lts
+use Rattle.figures.proofs.hexadecimal.Reads as hexadecimal
+use Rattle.figures.proofs.hexadecimal.Kinds as hexadecimal-kinds
+use Rattle.figures.proofs.+hexadecimal.Lts-hexadecimal as hexadecimal-lts
 use Rattle.page.proofs.byte.Reads as byte-reads
-use Rattle.page.proofs.glyph.Reads as glyph-reads
-use Rattle.page.proofs.+hexadecimal.{statement}
-use Rattle.page.proofs.+hexadecimal.Tie.{close}
+use Rattle.figures.proofs.glyph.Reads as glyph-reads
+use Rattle.figures.proofs.+hexadecimal.{statement}
+use Rattle.figures.proofs.+hexadecimal.Tie.{close}
 
 abbrev μ-hexadecimal : Measures 1 hexadecimal-kinds.ps ℕ
 μ-hexadecimal κs a = a .1 .1 .1 .0

@@ -1,13 +1,13 @@
--- `numerals::hexadecimal4` meets its contract: 4 digits reach no further than 16 bits.
+-- `spelling::hexadecimal4` meets its contract: 4 digits reach no further than 16 bits.
 -- Assumes nothing.
 use Prim.Native.Nat.{_^_}
 use mathlib.Core.Path.{sym, subst}
 use native.Mathlib.Omega.{arith}
-use Rattle.numerals.specs.Spelling.{Below}
-use Rattle.numerals.proofs.Reach.{most-below}
+use Rattle.spelling.specs.Spelling.{Below}
+use Rattle.spelling.proofs.Reach.{most-below}
 use borrow.Author.Needs.{needs}
-use Rattle.numerals.proofs.hexadecimal4.Statement.{statement}
-use Rattle.numerals.proofs.hexadecimal4.Tie as tie
+use Rattle.spelling.proofs.hexadecimal4.Statement.{statement}
+use Rattle.spelling.proofs.hexadecimal4.Tie as tie
 
 spelled-requires : tie.Need-spelled-requires
 spelled-requires c κs = search needs

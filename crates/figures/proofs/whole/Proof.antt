@@ -1,11 +1,11 @@
--- `page::whole` meets its contract: a minus and the number turned, or the number.
+-- `figures::whole` meets its contract: a minus and the number turned, or the number.
 -- Assumes nothing.
 use borrow.Author.Needs.{needs}
 use Rattle.counts.proofs.Integers.{cast-fits}
 use Rattle.page.proofs.Printing.{_⨾_, printed-as}
-use Rattle.page.proofs.Signs.{turned-fits, cast-turned, cast-same, text-negative, text-positive}
-use Rattle.page.proofs.whole.Statement.{statement}
-use Rattle.page.proofs.whole.Tie as tie
+use Rattle.figures.proofs.Signs.{turned-fits, cast-turned, cast-same, text-negative, text-positive}
+use Rattle.figures.proofs.whole.Statement.{statement}
+use Rattle.figures.proofs.whole.Tie as tie
 
 byte-requires : tie.Need-byte-requires
 byte-requires c κs = search needs

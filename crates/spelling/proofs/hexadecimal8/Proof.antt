@@ -1,13 +1,13 @@
--- `numerals::hexadecimal8` meets its contract: 8 digits reach no further than 32 bits.
+-- `spelling::hexadecimal8` meets its contract: 8 digits reach no further than 32 bits.
 -- Assumes nothing.
 use Prim.Native.Nat.{_^_}
 use mathlib.Core.Path.{sym, subst}
 use native.Mathlib.Omega.{arith}
-use Rattle.numerals.specs.Spelling.{Below}
-use Rattle.numerals.proofs.Reach.{most-below}
+use Rattle.spelling.specs.Spelling.{Below}
+use Rattle.spelling.proofs.Reach.{most-below}
 use borrow.Author.Needs.{needs}
-use Rattle.numerals.proofs.hexadecimal8.Statement.{statement}
-use Rattle.numerals.proofs.hexadecimal8.Tie as tie
+use Rattle.spelling.proofs.hexadecimal8.Statement.{statement}
+use Rattle.spelling.proofs.hexadecimal8.Tie as tie
 
 spelled-requires : tie.Need-spelled-requires
 spelled-requires c κs = search needs

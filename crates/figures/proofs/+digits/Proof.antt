@@ -7,17 +7,17 @@ use native.Mathlib.Omega.{arith}
 use borrow.Author.Needs.{needs}
 use Rattle.numerals.specs.Writing.{glyph}
 use Rattle.numerals.specs.Writing.{digits as writing}
-use Rattle.page.proofs.Last.{no-digits, one-digit, last-digit}
+use Rattle.figures.proofs.Last.{no-digits, one-digit, last-digit}
 use Rattle.page.proofs.Printing.{printed-nothing, _⨾_, printed-as}
 use borrow.Fn.Kinds.{In}
 use borrow.Fn.PlainCycle.{Measures, is, falls, and}
-use Rattle.page.proofs.digits.Reads as digits
-use Rattle.page.proofs.digits.Kinds as digits-kinds
-use Rattle.page.proofs.+digits.Lts-digits as digits-lts
+use Rattle.figures.proofs.digits.Reads as digits
+use Rattle.figures.proofs.digits.Kinds as digits-kinds
+use Rattle.figures.proofs.+digits.Lts-digits as digits-lts
 use Rattle.page.proofs.byte.Reads as byte-reads
-use Rattle.page.proofs.glyph.Reads as glyph-reads
-use Rattle.page.proofs.+digits.{statement}
-use Rattle.page.proofs.+digits.Tie.{close}
+use Rattle.figures.proofs.glyph.Reads as glyph-reads
+use Rattle.figures.proofs.+digits.{statement}
+use Rattle.figures.proofs.+digits.Tie.{close}
 
 abbrev μ-digits : Measures 1 digits-kinds.ps ℕ
 μ-digits κs a = a .1 .1 .1 .0

@@ -1,11 +1,11 @@
--- `numerals::digit` meets its contract: each arm is one range of bytes.
+-- `spelling::digit` meets its contract: each arm is one range of bytes.
 -- Assumes nothing.
 use mathlib.Core.Path.{sym}
 use native.Mathlib.Omega.{arith}
 use borrow.Author.Needs.{needs}
-use Rattle.numerals.proofs.Digits.{numeral, capital, small, before-numerals, before-capitals, before-small, after-small}
-use Rattle.numerals.proofs.digit.Statement.{statement}
-use Rattle.numerals.proofs.digit.Tie as tie
+use Rattle.spelling.proofs.Digits.{numeral, capital, small, before-numerals, before-capitals, before-small, after-small}
+use Rattle.spelling.proofs.digit.Statement.{statement}
+use Rattle.spelling.proofs.digit.Tie as tie
 
 cast-result : tie.Need-cast-result
 cast-result c = search needs

@@ -1,12 +1,12 @@
--- Whole numbers in ASCII: what digits spell.
+-- What digits spell, in ASCII.
 -- Assumes nothing.
 use Prim.Native.Nat.{ℕ, _+_, _-_, _*_, _^_, _<_}
 use mathlib.Core.Bool.{Bool, cond, _&&_}
 use mathlib.Core.List.{List, [], _∷_}
 use lib.Dec.{leb, ltb}
 use lib.ListN.{length}
-use Rattle.numerals.specs.declared.Number.{Number}
-use Rattle.numerals.specs.declared.Number.the-variants.{Value, Unreadable}
+use Rattle.spelling.specs.declared.Number.{Number}
+use Rattle.spelling.specs.declared.Number.the-variants.{Value, Unreadable}
 
 abbrev pub between : ℕ → ℕ → ℕ → Bool
 between low high b = leb low b && leb b high
@@ -27,19 +27,6 @@ spelledOf base most bs = cond (between 1 most (length bs)) (spelledFrom base 0 b
 -- 1 to 10 decimal digits
 abbrev pub decimalOf : List ℕ → Number
 decimalOf bs = spelledOf 10 10 bs
-
--- a number, if it lies below a limit
-abbrev pub belowOf : ℕ → Number → Number
-belowOf limit (Value n) = cond (ltb n limit) (Value n) Unreadable
-belowOf limit Unreadable = Unreadable
-
--- "U32: 1 to 10 decimal digits, below 2^32"
-abbrev pub unsigned32Of : List ℕ → Number
-unsigned32Of bs = belowOf (2 ^ 32) (decimalOf bs)
-
--- "LENGTH is a decimal from 0 to 32"
-abbrev pub lengthOf : List ℕ → Number
-lengthOf bs = belowOf 33 (decimalOf bs)
 
 -- a number that is read lies below a limit
 abbrev pub Below : ℕ → Number → Type 0

@@ -1,9 +1,9 @@
--- `page::glyph` meets its contract: its test is the definition's.
+-- `figures::glyph` meets its contract: its test is the definition's.
 -- Assumes nothing.
 use borrow.Author.Needs.{needs}
 use borrow.Author.Tests.{lt-ltb, le-ltb}
-use Rattle.page.proofs.glyph.Statement.{statement}
-use Rattle.page.proofs.glyph.Tie as tie
+use Rattle.figures.proofs.glyph.Statement.{statement}
+use Rattle.figures.proofs.glyph.Tie as tie
 
 cast-result : tie.Need-cast-result
 cast-result c = search needs

@@ -10,9 +10,9 @@ use borrow.Author.Tests.{ltb-true, leb-true, le-leb, lt-leb}
 use lib.Dec.{leb, ltb}
 use lib.ListN.{length, drop, getD}
 use lib.Seq.{drop-cons}
-use Rattle.numerals.specs.declared.Number.{Number}
-use Rattle.numerals.specs.declared.Number.the-variants.{Value, Unreadable}
-use Rattle.numerals.specs.Spelling.{digitOf, spelledFrom, spelledOf, Below}
+use Rattle.spelling.specs.declared.Number.{Number}
+use Rattle.spelling.specs.declared.Number.the-variants.{Value, Unreadable}
+use Rattle.spelling.specs.Spelling.{digitOf, spelledFrom, spelledOf, Below}
 
 -- the digit at i is read
 pub further : (base v : ℕ) (bs : List ℕ) (i : ℕ) → i < length bs → ltb (digitOf (getD bs i 0)) base ≡ true

@@ -1,4 +1,4 @@
--- `numerals::spelled` meets its contract: what the text spells is what the rest of it spells after the value so far.
+-- `spelling::spelled` meets its contract: what the text spells is what the rest of it spells after the value so far.
 -- Assumes nothing.
 use Prim.Native.Nat.{suc, _+_, _-_, _*_, _^_, _≤_, _<_}
 use mathlib.Core.Bool.{true}
@@ -11,10 +11,10 @@ use borrow.Author.Tests.{lt-ltb, le-ltb, le-leb, lt-leb}
 use lib.Dec.{ltb}
 use lib.ListN.{length, drop, getD}
 use lib.Seq.{drop-length}
-use Rattle.numerals.specs.Spelling.{digitOf, spelledFrom, spelledOf}
-use Rattle.numerals.proofs.Reach.{further, stops, nothing, reach, within, no-digits, many-digits}
-use Rattle.numerals.proofs.spelled.Statement.{statement}
-use Rattle.numerals.proofs.spelled.Tie as tie
+use Rattle.spelling.specs.Spelling.{digitOf, spelledFrom, spelledOf}
+use Rattle.spelling.proofs.Reach.{further, stops, nothing, reach, within, no-digits, many-digits}
+use Rattle.spelling.proofs.spelled.Statement.{statement}
+use Rattle.spelling.proofs.spelled.Tie as tie
 
 abbrev Inv-loop : tie.InvT-loop
 Inv-loop text base most value₀ i₀ value i =
