@@ -1,4 +1,4 @@
--- Each row of the code's two lists of phrases is the text that the definitions give it: computed, row by row.
+-- Each row of the code's list of trade words is the text that the definitions give it: computed, row by row.
 -- Assumes nothing.
 use Prim.Native.Nat.{ℕ, zero, suc, min, _≤_}
 use mathlib.Core.List.{List}
@@ -6,11 +6,9 @@ use mathlib.Core.Path.{_≡_, refl}
 use native.Mathlib.Omega.{arith}
 use borrow.Author.Tests.{ne-eqb}
 use Rattle.bytes.specs.Bytes.{indexOf}
-use Rattle.cursors.specs.declared.Expected.{Expected}
-use Rattle.cursors.specs.declared.Expected.the-variants.{Keyword, Digits, Whole, Float, Command, At, Switches, Standstill, Set, End}
 use Rattle.phrases.specs.Phrases.{nthOf, startOf}
 use Rattle.tokens.specs.Ascii.{ascii}
-use Rattle.printer.specs.Texts.{tradeRow, tradeWord, expectedRow, expectedText}
+use Rattle.printer.specs.Texts.{tradeRow, tradeWord}
 
 abbrev pub trade-words : List ℕ
 trade-words = ascii "\n  out of turn\n  strange layout\n  out of range\n  bad sum\n  stops crossed\n  out of reach\n  axis live\n  no sheet\n  short buffer\n"
@@ -30,21 +28,3 @@ trade-row (suc (suc (suc (suc (suc (suc (suc (suc (suc n))))))))) =
     let m = suc (suc (suc (suc (suc (suc (suc (suc (suc n)))))))) in
     let row : tradeRow m ≡ 9 = omega arith in
     rw (row, ne-eqb m 0 (omega arith), ne-eqb m 1 (omega arith), ne-eqb m 2 (omega arith), ne-eqb m 3 (omega arith), ne-eqb m 4 (omega arith), ne-eqb m 5 (omega arith), ne-eqb m 6 (omega arith), ne-eqb m 7 (omega arith), ne-eqb m 8 (omega arith))
-
-abbrev pub expectations : List ℕ
-expectations =
-    ascii
-    " expected word, tick, sheet or fresh\n expected hexadecimal digits\n expected a whole number\n expected a float\n expected a command\n expected at\n expected switches\n expected still or moving\n expected set1 or set2\n expected end of line\n"
-
-pub expected-row : (e : Expected) → nthOf (expectedRow e) expectations ≡ expectedText e
-unfolding nthOf startOf indexOf
-expected-row Keyword = refl
-expected-row Digits = refl
-expected-row Whole = refl
-expected-row Float = refl
-expected-row Command = refl
-expected-row At = refl
-expected-row Switches = refl
-expected-row Standstill = refl
-expected-row Set = refl
-expected-row End = refl

@@ -5,9 +5,6 @@ use mathlib.Core.Bool.{cond}
 use mathlib.Core.List.{List, [], _∷_, _++_}
 use lib.Dec.{eqb}
 use Rattle.answers.specs.declared.Answer.{Answer}
-use Rattle.cursors.specs.declared.Expected.the-variants.{Keyword, Digits, Whole, Float, Command, At, Switches, Standstill, Set, End}
-use Rattle.cursors.specs.declared.Expected.{Expected}
-use Rattle.lines.specs.declared.Trouble.{Trouble}
 use Rattle.numerals.specs.Writing.{decimal, hexadecimal, whole}
 use Rattle.tokens.specs.Ascii.{ascii}
 
@@ -23,21 +20,9 @@ tradeWord n =
     (cond (eqb n 7) (ascii "  axis live\n")
     (cond (eqb n 8) (ascii "  no sheet\n") (ascii "  short buffer\n")))))))))
 
--- the row of a number in the code's list of trade words, and of what was expected in its list
+-- the row of a number in the code's list of trade words
 abbrev pub tradeRow : ℕ → ℕ
 tradeRow n = min n 9
-
-abbrev pub expectedRow : Expected → ℕ
-expectedRow Keyword = 0
-expectedRow Digits = 1
-expectedRow Whole = 2
-expectedRow Float = 3
-expectedRow Command = 4
-expectedRow At = 5
-expectedRow Switches = 6
-expectedRow Standstill = 7
-expectedRow Set = 8
-expectedRow End = 9
 
 abbrev pub freshText : List ℕ
 freshText = ascii "fresh\n"
@@ -69,26 +54,3 @@ wordsText (w ∷ ws) = (32 ∷ []) ++ hexadecimal 8 w ++ wordsText ws
 -- "sheet N and the LENGTH words of the buffer after the call"
 abbrev pub sheetText : ℕ → List ℕ → List ℕ
 sheetText n buffer = ascii "sheet " ++ decimal n ++ wordsText buffer ++ tradeWord n
-
-abbrev pub expectedText : Expected → List ℕ
-expectedText Keyword = ascii " expected word, tick, sheet or fresh\n"
-expectedText Digits = ascii " expected hexadecimal digits\n"
-expectedText Whole = ascii " expected a whole number\n"
-expectedText Float = ascii " expected a float\n"
-expectedText Command = ascii " expected a command\n"
-expectedText At = ascii " expected at\n"
-expectedText Switches = ascii " expected switches\n"
-expectedText Standstill = ascii " expected still or moving\n"
-expectedText Set = ascii " expected set1 or set2\n"
-expectedText End = ascii " expected end of line\n"
-
-abbrev pub placeText : ℕ → ℕ → List ℕ
-placeText line column = (ascii "unreadable " ++ decimal line) ++ ((32 ∷ []) ++ decimal column)
-
--- "unreadable LINE COLUMN expected WHAT"
-abbrev pub unreadableText : ℕ → Trouble → List ℕ
-unreadableText line t = placeText line (t .column) ++ expectedText (t .expected)
-
--- "unreadable LINE 256 line too long"
-abbrev pub longText : ℕ → List ℕ
-longText line = placeText line 256 ++ ascii " line too long\n"

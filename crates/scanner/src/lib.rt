@@ -2,8 +2,8 @@
 use cursors::Cursor;
 use cursors::Expected;
 use floats::Float;
-use spelling::Number;
 use numerals::Whole;
+use spelling::Number;
 use tokens::Span;
 ghost use Prim.Native.Nat.{_<_, _^_};
 ghost use mathlib.Core.Path.{_≡_};

@@ -1,19 +1,18 @@
 -- "one line in, one line out, in order": what a line does to the axis, and its answer.
 -- Assumes nothing.
-use Prim.Native.Nat.{ℕ, _+_, _%_, _^_, min}
+use Prim.Native.Nat.{ℕ, _+_, _%_, _^_}
 use mathlib.Core.List.{List, []}
 use mathlib.Core.Path.{_≡_}
-use lib.ListN.{replicate}
 use Rattle.axis.specs.declared.Axis.{Axis}
 use Rattle.axis.specs.Tick.{freshAxis, tickOf}
 use Rattle.axis.specs.Word.{wordOf}
+use Rattle.lent.specs.Lent.{writtenText}
 use Rattle.lines.specs.declared.Line.{Line}
 use Rattle.lines.specs.declared.Line.the-variants.{Blank, Fresh, Word, Tick, Sheet, Unreadable}
-use Rattle.sheets.specs.declared.Writing.{Writing}
 use Rattle.page.specs.Page.{Printed}
-use Rattle.printer.specs.Texts.{freshText, wordText, tickText, sheetText, unreadableText}
+use Rattle.complaints.specs.Texts.{unreadableText}
+use Rattle.printer.specs.Texts.{freshText, wordText, tickText}
 use Rattle.settings.specs.Refusal.{verdictNumber}
-use Rattle.writer.specs.Write.{writeVerdict, written}
 use Rattle.session.specs.declared.Answered.{Answered}
 use Rattle.session.specs.declared.Session.{Session}
 
@@ -23,13 +22,6 @@ counted s = record { axis = s .axis; lines = (s .lines + 1) % 2 ^ 64 }
 
 abbrev pub withAxis : Session → Axis → Session
 withAxis s a = record { axis = a; lines = s .lines }
-
--- "a buffer of LENGTH words that each hold DEADBEEF"; at most 32, a guard, since a line that is read lends no more
-abbrev pub lentOf : Writing → List ℕ
-lentOf w = replicate (min (w .length) 32) 0xDEADBEEF
-
-abbrev pub writtenText : Writing → List ℕ
-writtenText w = sheetText (verdictNumber (writeVerdict (w .settings) (lentOf w))) (written (w .settings) (lentOf w))
 
 -- the axis after a line: "the axis is left alone" by the writer and by what cannot be read
 abbrev pub nextOf : Session → Line → Session

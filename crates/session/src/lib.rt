@@ -1,16 +1,12 @@
 // The axis that the lines speak to, and the answer to each line.
 use axis::Axis;
 use lines::Line;
-use sheets::Writing;
 use ticks::Tick;
-ghost use Prim.Native.Nat.{min};
 ghost use mathlib.Core.Path.{_≡_};
-ghost use lib.ListN.{replicate};
 ghost use Rattle.axis.specs.Tick.{freshAxis};
 ghost use Rattle.lines.specs.Lines.{lineOf};
-ghost use Rattle.page.specs.Page.{Printed};
-ghost use Rattle.printer.specs.Texts.{longText};
-ghost use Rattle.session.specs.Answering.{counted, withAxis, writtenText, nextOf, textOf, Answers};
+ghost use Rattle.complaints.specs.Texts.{longText};
+ghost use Rattle.session.specs.Answering.{counted, withAxis, nextOf, textOf, Answers};
 
 pub struct Session {
     pub axis: Axis,
@@ -22,31 +18,6 @@ pub struct Session {
 pub struct Answered {
     pub session: Session,
     pub length: usize,
-}
-
-// No line lends more than 32 words.
-fn words_lent(length: u32) -> usize
-    ensures { λ r. ⌜ r ≡ min length 32 ⌝ }
-{
-    if length < 32 { length as usize } else { 32 }
-}
-
-// A buffer that nothing was written to.
-fn unwritten() -> [u32; 32]
-    ensures { λ r. ⌜ r ≡ replicate 32 0xDEADBEEF ⌝ }
-{
-    [0xDEADBEEF; 32]
-}
-
-// The writer's answer, on a buffer whose words hold DEADBEEF.
-fn write(writing: Writing, out: &mut [u8]) -> usize
-    ensures { λ r. ⌜ Printed (now (out .entry)) 0 (writtenText writing) (now (out .exit)) r ⌝ }
-{
-    let settings = writing.settings;
-    let n = words_lent(writing.length);
-    let mut buffer = unwritten();
-    let verdict = writer::write(settings, &mut buffer[..n]);
-    printer::sheet(out, printer::number(verdict), &buffer[..n])
 }
 
 impl Session {
@@ -119,14 +90,14 @@ impl Session {
             Line::Word(word) => self.word(word, out),
             Line::Tick(tick) => self.tick(tick, out),
             Line::Sheet(writing) => {
-                let length = write(writing, out);
+                let length = lent::write(writing, out);
                 Answered {
                     session: self,
                     length,
                 }
             }
             Line::Unreadable(trouble) => {
-                let length = printer::unreadable(out, self.lines, trouble);
+                let length = complaints::unreadable(out, self.lines, trouble);
                 Answered {
                     session: self,
                     length,
@@ -148,7 +119,7 @@ impl Session {
         ensures { λ r. ⌜ Answers (now (out .entry)) (now (out .exit)) r (counted self) (longText (counted self .lines)) ⌝ }
     {
         let session = self.count();
-        let length = printer::too_long(out, session.lines);
+        let length = complaints::too_long(out, session.lines);
         Answered { session, length }
     }
 }

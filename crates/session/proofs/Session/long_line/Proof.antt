@@ -2,7 +2,7 @@
 -- Assumes nothing.
 use mathlib.Core.Path.{ap}
 use Rattle.page.proofs.Printing.{printed-as}
-use Rattle.printer.specs.Texts.{longText}
+use Rattle.complaints.specs.Texts.{longText}
 use borrow.Author.Needs.{needs}
 use Rattle.session.proofs.Session.long_line.Statement.{statement}
 use Rattle.session.proofs.Session.long_line.Tie as tie

@@ -1,9 +1,9 @@
--- `printer::place` meets its contract: part after part.
+-- `complaints::place` meets its contract: part after part.
 -- Assumes nothing.
 use Rattle.page.proofs.Printing.{_⨾_}
 use borrow.Author.Needs.{needs}
-use Rattle.printer.proofs.place.Statement.{statement}
-use Rattle.printer.proofs.place.Tie as tie
+use Rattle.complaints.proofs.place.Statement.{statement}
+use Rattle.complaints.proofs.place.Tie as tie
 
 slice-aggregate-count : tie.Need-slice-aggregate-count
 slice-aggregate-count c = search needs

@@ -1,9 +1,9 @@
--- `printer::unreadable` meets its contract.
+-- `complaints::unreadable` meets its contract.
 -- Assumes nothing.
 use Rattle.page.proofs.Printing.{_⨾_}
 use borrow.Author.Needs.{needs}
-use Rattle.printer.proofs.unreadable.Statement.{statement}
-use Rattle.printer.proofs.unreadable.Tie as tie
+use Rattle.complaints.proofs.unreadable.Statement.{statement}
+use Rattle.complaints.proofs.unreadable.Tie as tie
 
 place-requires : tie.Need-place-requires
 place-requires c κs = search needs

@@ -1,9 +1,9 @@
--- `printer::too_long` meets its contract.
+-- `complaints::too_long` meets its contract.
 -- Assumes nothing.
 use Rattle.page.proofs.Printing.{_⨾_}
 use borrow.Author.Needs.{needs}
-use Rattle.printer.proofs.too_long.Statement.{statement}
-use Rattle.printer.proofs.too_long.Tie as tie
+use Rattle.complaints.proofs.too_long.Statement.{statement}
+use Rattle.complaints.proofs.too_long.Tie as tie
 
 place-requires : tie.Need-place-requires
 place-requires c κs = search needs

@@ -1,4 +1,4 @@
--- `session::write` meets its contract: the part that is lent holds DEADBEEF, and comes back as it was written.
+-- `lent::write` meets its contract: the part that is lent holds DEADBEEF, and comes back as it was written.
 -- Assumes nothing.
 use Prim.Native.Nat.{ℕ, _≤_, min}
 use mathlib.Core.List.{_++_}
@@ -10,11 +10,11 @@ use Rattle.page.proofs.Printing.{printed-as}
 use Rattle.printer.specs.Texts.{sheetText}
 use Rattle.settings.specs.Refusal.{verdictNumber}
 use Rattle.writer.specs.Write.{writeVerdict, written}
-use Rattle.session.specs.Answering.{lentOf}
-use Rattle.session.proofs.Lent.{first-words, given-back, still-there}
+use Rattle.lent.specs.Lent.{lentOf}
+use Rattle.lent.proofs.Buffers.{first-words, given-back, still-there}
 use borrow.Author.Needs.{needs}
-use Rattle.session.proofs.write.Statement.{statement}
-use Rattle.session.proofs.write.Tie as tie
+use Rattle.lent.proofs.write.Statement.{statement}
+use Rattle.lent.proofs.write.Tie as tie
 
 words-lent-requires : tie.Need-words-lent-requires
 words-lent-requires c κs = search needs

@@ -1,0 +1,16 @@
+-- "sheet N and the LENGTH words of the buffer after the call": what the writer leaves on a buffer that is lent to it.
+-- Assumes nothing.
+use Prim.Native.Nat.{ℕ, min}
+use mathlib.Core.List.{List}
+use lib.ListN.{replicate}
+use Rattle.printer.specs.Texts.{sheetText}
+use Rattle.settings.specs.Refusal.{verdictNumber}
+use Rattle.sheets.specs.declared.Writing.{Writing}
+use Rattle.writer.specs.Write.{writeVerdict, written}
+
+-- "a buffer of LENGTH words that each hold DEADBEEF"; at most 32, a guard, since a line that is read lends no more
+abbrev pub lentOf : Writing → List ℕ
+lentOf w = replicate (min (w .length) 32) 0xDEADBEEF
+
+abbrev pub writtenText : Writing → List ℕ
+writtenText w = sheetText (verdictNumber (writeVerdict (w .settings) (lentOf w))) (written (w .settings) (lentOf w))
