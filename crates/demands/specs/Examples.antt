@@ -24,7 +24,7 @@ use Rattle.words.specs.Decode.{settingsOf}
 use Rattle.reader.specs.Fields.{fieldOk}
 use Rattle.reader.specs.Read.{startOf, fieldOf, endOf, readOf}
 use Rattle.roundtrip.specs.Examples.{words-S}
-use Rattle.drive.specs.Control.{controlCommandOf}
+use Rattle.control.specs.Control.{controlCommandOf}
 use Rattle.drive.specs.Transitions.{nextOf}
 use Rattle.hybrid.specs.Hybrid.{quotientOf, sizeOf, negative, wholeOf}
 use Rattle.commands.specs.declared.Command.{Command}

@@ -1,8 +1,8 @@
--- `drive::rising` meets its contract: its two bits are the definition's.
+-- `control::rising` meets its contract: its two bits are the definition's.
 -- Assumes nothing.
 use borrow.Author.Needs.{needs}
-use Rattle.drive.proofs.rising.Statement.{statement}
-use Rattle.drive.proofs.rising.Tie as tie
+use Rattle.control.proofs.rising.Statement.{statement}
+use Rattle.control.proofs.rising.Tie as tie
 
 bit-requires : tie.Need-bit-requires
 bit-requires c κs = search needs

@@ -1,12 +1,12 @@
--- `drive::control_command` meets its contract: each path settles the definition's tests, in its order.
+-- `control::control_command` meets its contract: each path settles the definition's tests, in its order.
 -- Assumes nothing.
 use mathlib.Core.Path.{_≡_, sym, _∙_}
 use mathlib.Core.Bool.{true, false}
 use Rattle.counts.specs.Bit.{bitOf}
-use Rattle.drive.specs.Control.{controlCommandOf}
+use Rattle.control.specs.Control.{controlCommandOf}
 use borrow.Author.Needs.{needs}
-use Rattle.drive.proofs.control_command.Statement.{statement}
-use Rattle.drive.proofs.control_command.Tie as tie
+use Rattle.control.proofs.control_command.Statement.{statement}
+use Rattle.control.proofs.control_command.Tie as tie
 
 bit-requires : tie.Need-bit-requires
 bit-requires c κs = search needs
