@@ -1,11 +1,11 @@
--- `settings::gear::within_reach` meets its contract: its two tests are the definition's.
+-- `gears::within_reach` meets its contract: its two tests are the definition's.
 -- Assumes nothing.
 use mir.Facts.{toZ-ofZ}
 use mir.Syntax.{w64}
 use mir.Val.{SFits}
 use borrow.Author.Needs.{needs}
-use Rattle.settings.proofs.gear.within_reach.Statement.{statement}
-use Rattle.settings.proofs.gear.within_reach.Tie as tie
+use Rattle.gears.proofs.within_reach.Statement.{statement}
+use Rattle.gears.proofs.within_reach.Tie as tie
 
 geared-requires : tie.Need-geared-requires
 geared-requires c κs = search needs

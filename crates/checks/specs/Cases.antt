@@ -2,10 +2,10 @@
 -- (`proofs/Numbers.antt`).
 -- Assumes nothing.
 use mathlib.Core.Bool.{Bool, not}
 use Rattle.settings.specs.declared.Settings.{Settings}
 use Rattle.settings.specs.Ranges.{inRange}
-use Rattle.settings.specs.Gear.{inReach}
-use Rattle.settings.specs.Check.{limitsApart}
+use Rattle.gears.specs.Gear.{inReach}
+use Rattle.checks.specs.Check.{limitsApart}
 
 -- 3: "data outside its field"
 abbrev pub outOfRange : Settings → Bool

@@ -1,10 +1,10 @@
--- `settings::check` meets its contract: its tests are the definition's, in its order.
+-- `checks::check` meets its contract: its tests are the definition's, in its order.
 -- Assumes nothing.
 use mathlib.Core.Path.{_≡_, sym, _∙_}
-use Rattle.settings.specs.Check.{verdictOf}
+use Rattle.checks.specs.Check.{verdictOf}
 use borrow.Author.Needs.{needs}
-use Rattle.settings.proofs.check.Statement.{statement}
-use Rattle.settings.proofs.check.Tie as tie
+use Rattle.checks.proofs.check.Statement.{statement}
+use Rattle.checks.proofs.check.Tie as tie
 
 in-range-requires : tie.Need-in-range-requires
 in-range-requires c κs = search needs

@@ -1,10 +1,10 @@
--- `settings::check_limits` meets its contract: its tests are the definition's, in its order.
+-- `checks::check_limits` meets its contract: its tests are the definition's, in its order.
 -- Assumes nothing.
 use mathlib.Core.Path.{sym, _∙_}
-use Rattle.settings.specs.Check.{limitsVerdict}
+use Rattle.checks.specs.Check.{limitsVerdict}
 use borrow.Author.Needs.{needs}
-use Rattle.settings.proofs.check_limits.Statement.{statement}
-use Rattle.settings.proofs.check_limits.Tie as tie
+use Rattle.checks.proofs.check_limits.Statement.{statement}
+use Rattle.checks.proofs.check_limits.Tie as tie
 
 limits-apart-requires : tie.Need-limits-apart-requires
 limits-apart-requires c κs = search needs

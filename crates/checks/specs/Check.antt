@@ -2,12 +2,12 @@
 -- Assumes nothing.
 use mathlib.Core.Bool.{Bool, cond, _&&_}
 use lib.Signed.{ltZ}
 use Rattle.settings.specs.declared.Settings.{Settings}
 use Rattle.settings.specs.declared.Refusal.the-variants.{OutOfRange, LimitsCrossed, OutOfReach}
 use Rattle.settings.specs.declared.Verdict.{Verdict}
 use Rattle.settings.specs.declared.Verdict.the-variants.{Accepted, Refused}
 use Rattle.settings.specs.Ranges.{inRange}
-use Rattle.settings.specs.Gear.{inReach}
+use Rattle.gears.specs.Gear.{inReach}
 
 -- the stops are not crossed: the lower is below the upper
 abbrev pub limitsApart : Settings → Bool

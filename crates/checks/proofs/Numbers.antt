@@ -6,16 +6,16 @@ use mathlib.Core.Path.{_≡_, refl}
 use mathlib.Core.Bool.{Bool, true, false, cond, not, _&&_, false≢true}
 use mathlib.Core.Logic.{_↔_}
 use native.Mathlib.Omega.{arith}
 use Rattle.settings.specs.declared.Settings.{Settings}
 use Rattle.settings.specs.declared.Refusal.{Refusal}
 use Rattle.settings.specs.declared.Refusal.the-variants.{OutOfRange, LimitsCrossed, OutOfReach}
 use Rattle.settings.specs.declared.Verdict.the-variants.{Accepted, Refused}
 use Rattle.settings.specs.Refusal.{verdictNumber}
 use Rattle.settings.specs.Ranges.{inRange}
-use Rattle.settings.specs.Gear.{inReach}
-use Rattle.settings.specs.Check.{limitsApart, acceptable, limitsVerdict, verdictOf}
-use Rattle.settings.specs.Cases.{outOfRange, limitsCrossed, outOfReach}
-use Rattle.settings.proofs.First.{hit, skip, miss}
+use Rattle.gears.specs.Gear.{inReach}
+use Rattle.checks.specs.Check.{limitsApart, acceptable, limitsVerdict, verdictOf}
+use Rattle.checks.specs.Cases.{outOfRange, limitsCrossed, outOfReach}
+use Rattle.checks.proofs.First.{hit, skip, miss}
 
 -- tests 5 and 6
 pub limits-number : (s : Settings) → verdictNumber (limitsVerdict s) ≡ cond (limitsCrossed s) 5 (cond (outOfReach s) 6 0)

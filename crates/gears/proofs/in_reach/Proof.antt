@@ -1,12 +1,12 @@
--- `settings::gear::in_reach` meets its contract.
+-- `gears::in_reach` meets its contract.
 -- Assumes nothing.
 use mir.Facts.{toZ-ofZ}
 use mir.Syntax.{w32}
 use mir.Val.{SFits}
-use Rattle.settings.specs.Gear.{inReach}
+use Rattle.gears.specs.Gear.{inReach}
 use borrow.Author.Needs.{needs}
-use Rattle.settings.proofs.gear.in_reach.Statement.{statement}
-use Rattle.settings.proofs.gear.in_reach.Tie as tie
+use Rattle.gears.proofs.in_reach.Statement.{statement}
+use Rattle.gears.proofs.in_reach.Tie as tie
 
 within-reach-requires : tie.Need-within-reach-requires
 within-reach-requires c κs = search needs

@@ -6,10 +6,10 @@ use mathlib.Core.Bool.{true}
 use native.Mathlib.Omega.{arith}
 use borrow.Author.Tests.{leb-true}
 use lib.Dec.{leb}
 use Rattle.settings.specs.declared.Settings.{Settings}
 use Rattle.settings.specs.Ranges.{inRange}
-use Rattle.settings.specs.Gear.{cappedNumerator, positiveDenominator}
+use Rattle.gears.specs.Gear.{cappedNumerator, positiveDenominator}
 use Rattle.settings.proofs.Within.{within, both}
 
 module _ (s : Settings) (e : inRange s ≡ true) where
   pub numerator-kept : cappedNumerator s ≡ s .numerator

@@ -1,4 +1,4 @@
--- `settings::gear::geared` meets its contract: the difference of two 32-bit numbers, times at most 2 ^ 20, fits 64 bits.
+-- `gears::geared` meets its contract: the difference of two 32-bit numbers, times at most 2 ^ 20, fits 64 bits.
 -- Assumes nothing.
 use Prim.Native.Nat.{_+_, _^_, _≤_}
 use mathlib.Core.Path.{_≡_, _∙_, ap}
@@ -11,10 +11,10 @@ use mir.Syntax.{w32, w64}
 use mir.Val.{SFits, toZ}
 use Rattle.counts.specs.Divide.{floorDiv}
 use Rattle.counts.proofs.Integers.{wide, read-wide, read-unsigned, cast-fits, sub-fits, sub-read-fits, mag-sub, mag-mul}
-use Rattle.settings.specs.Gear.{gearedOf}
+use Rattle.gears.specs.Gear.{gearedOf}
 use borrow.Author.Needs.{needs}
-use Rattle.settings.proofs.gear.geared.Statement.{statement}
-use Rattle.settings.proofs.gear.geared.Tie as tie
+use Rattle.gears.proofs.geared.Statement.{statement}
+use Rattle.gears.proofs.geared.Tie as tie
 
 cast-units : tie.Need-cast-units
 cast-units c = search (cast-fits, needs)

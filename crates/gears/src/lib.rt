@@ -1,8 +1,8 @@
 // The gear: user units to counts, and whether the position limits are in reach (01: refusal 6).
-use crate::Settings;
+use settings::Settings;
 ghost use mathlib.Core.Path.{_≡_};
 ghost use Prim.Native.Nat.{_^_, min};
-ghost use Rattle.settings.specs.Gear.{gearedOf, withinReach, inReach};
+ghost use Rattle.gears.specs.Gear.{gearedOf, withinReach, inReach};
 
 // A gear numerator is at most 2^20.
 fn capped(numerator: u32) -> u32
