@@ -10,8 +10,8 @@ use lib.Dec.{eqb}
 use lib.ListN.{length, take, drop, length-append, take-append-drop}
 use lib.Seq.{take-at, drop-at}
 use Rattle.settings.specs.declared.Settings.{Settings}
-use Rattle.settings.specs.Check.{acceptable}
-use Rattle.settings.proofs.Numbers.{passes}
+use Rattle.checks.specs.Check.{acceptable}
+use Rattle.checks.proofs.Numbers.{passes}
 use Rattle.settings.proofs.Within.{both}
 use Rattle.words.specs.Word.{dataOf, wordOf}
 use Rattle.words.specs.Encode.{valuesOf, checksumOf, wordsFrom, wordsOf}

@@ -11,8 +11,8 @@ use Rattle.settings.specs.declared.Refusal.{Refusal}
 use Rattle.settings.specs.declared.Refusal.the-variants.{DriveActive}
 use Rattle.settings.specs.declared.Verdict.the-variants as verdict
 use Rattle.settings.specs.Refusal.{numberOf}
-use Rattle.settings.specs.Check.{acceptable}
-use Rattle.settings.proofs.Numbers.{passes}
+use Rattle.checks.specs.Check.{acceptable}
+use Rattle.checks.proofs.Numbers.{passes}
 use Rattle.words.specs.Word.{kindOf, wordOf as wordBy}
 use Rattle.words.specs.Encode.{valuesOf, checksumOf, wordsFrom, wordsOf}
 use Rattle.words.proofs.Words.{length-words}

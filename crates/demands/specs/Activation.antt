@@ -9,7 +9,7 @@ use mathlib.Core.List.{List, [], _∷_, map}
 use lib.Dec.{eqb}
 use lib.ListN.{length, take, drop}
 use Rattle.settings.specs.declared.Settings.{Settings}
-use Rattle.settings.specs.Check.{acceptable}
+use Rattle.checks.specs.Check.{acceptable}
 use Rattle.words.specs.Word.{dataOf}
 use Rattle.words.specs.Encode.{wordsOf}
 use Rattle.words.specs.Decode.{settingsOf}

@@ -14,17 +14,17 @@ use Rattle.counts.specs.Wrap.{modulo, signed, wrapped}
 use Rattle.counts.specs.Divide.{floorDiv}
 use Rattle.counts.specs.Clamp.{clamped}
 use Rattle.ranges.specs.Range.{methodOk}
-use Rattle.settings.specs.Gear.{gearedOf, inReach}
-use Rattle.settings.specs.Check.{limitsVerdict}
+use Rattle.gears.specs.Gear.{gearedOf, inReach}
+use Rattle.checks.specs.Check.{limitsVerdict}
 use Rattle.settings.specs.Refusal.{verdictNumber}
 use Rattle.settings.specs.Ranges.{inRange}
-use Rattle.settings.specs.Check.{acceptable}
+use Rattle.checks.specs.Check.{acceptable}
 use Rattle.words.specs.Encode.{valuesOf, total, checksumOf, wordsFrom, wordsOf}
 use Rattle.words.specs.Decode.{settingsOf}
 use Rattle.reader.specs.Fields.{fieldOk}
 use Rattle.reader.specs.Read.{startOf, fieldOf, endOf, readOf}
 use Rattle.roundtrip.specs.Examples.{words-S}
-use Rattle.drive.specs.Control.{controlCommandOf}
+use Rattle.control.specs.Control.{controlCommandOf}
 use Rattle.drive.specs.Transitions.{nextOf}
 use Rattle.hybrid.specs.Hybrid.{quotientOf, sizeOf, negative, wholeOf}
 use Rattle.commands.specs.declared.Command.{Command}

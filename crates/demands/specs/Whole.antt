@@ -10,7 +10,7 @@ use Rattle.settings.specs.declared.Settings.{Settings}
 use Rattle.settings.specs.declared.Refusal.{Refusal}
 use Rattle.settings.specs.declared.Refusal.the-variants.{DriveActive, NoSettings}
 use Rattle.settings.specs.declared.Verdict.the-variants.{Accepted, Refused}
-use Rattle.settings.specs.Check.{acceptable}
+use Rattle.checks.specs.Check.{acceptable}
 use Rattle.words.specs.Encode.{wordsOf}
 use Rattle.reader.specs.declared.Pending.{Pending}
 use Rattle.reader.specs.declared.Outcome.the-variants.{Complete}

@@ -11,9 +11,9 @@ use denote.Enum.Declared.{tagOf}
 use Rattle.states.specs.declared.State.{State}
 use Rattle.states.specs.declared.State.the-variants.{NotReady, SwitchOnDisabled, Ready, SwitchedOn, OperationEnabled, QuickStopActive, FaultReaction, Fault}
 use Rattle.states.proofs.State as state
-use Rattle.drive.specs.declared.ControlCommand.{ControlCommand}
-use Rattle.drive.specs.declared.ControlCommand.the-variants.{Nothing, DisableVoltage, QuickStop, Shutdown, SwitchOn, EnableOperation}
-use Rattle.drive.proofs.ControlCommand as command
+use Rattle.control.specs.declared.ControlCommand.{ControlCommand}
+use Rattle.control.specs.declared.ControlCommand.the-variants.{Nothing, DisableVoltage, QuickStop, Shutdown, SwitchOn, EnableOperation}
+use Rattle.control.proofs.ControlCommand as command
 
 module _ {A : Type 0} (tag : A → ℕ) (at : ℕ → A) (same : (a : A) → at (tag a) ≡ a) (g f : A → State) (a : A) where
   here : (k : ℕ) → tag a ≡ k → g (at k) ≡ f (at k) → g a ≡ f a

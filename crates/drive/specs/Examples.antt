@@ -7,7 +7,7 @@ use mathlib.Core.List.{List, [], _∷_}
 use lib.Dec.{eqb}
 use Rattle.states.specs.declared.State.{State}
 use Rattle.states.specs.declared.State.the-variants.{NotReady, SwitchOnDisabled, Ready, SwitchedOn, OperationEnabled, QuickStopActive, FaultReaction, Fault}
-use Rattle.drive.specs.Control.{controlCommandOf}
+use Rattle.control.specs.Control.{controlCommandOf}
 use Rattle.drive.specs.Transitions.{nextOf}
 use Rattle.states.specs.Alarm.{leastSet, alarmNumberOf}
 use Rattle.states.specs.Status.{statusOf}

@@ -1,3 +1,2 @@
-pub mod Control
 pub mod Transitions
 pub mod Examples

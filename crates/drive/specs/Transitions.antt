@@ -4,13 +4,12 @@ use Prim.Native.Nat.{ℕ}
 use mathlib.Core.Bool.{Bool, true, false, cond, not, _&&_, _||_}
 use mathlib.Core.List.{List, [], _∷_}
 use lib.Dec.{eqb}
-use Rattle.counts.specs.Bit.{bitOf}
 use Rattle.states.specs.declared.State.{State}
 use Rattle.states.specs.declared.State.the-variants.{NotReady, SwitchOnDisabled, Ready, SwitchedOn, OperationEnabled, QuickStopActive, FaultReaction, Fault}
-use Rattle.drive.specs.declared.ControlCommand.{ControlCommand}
-use Rattle.drive.specs.declared.ControlCommand.the-variants.{Nothing, DisableVoltage, QuickStop, Shutdown, SwitchOn, EnableOperation}
+use Rattle.control.specs.declared.ControlCommand.{ControlCommand}
+use Rattle.control.specs.declared.ControlCommand.the-variants.{Nothing, DisableVoltage, QuickStop, Shutdown, SwitchOn, EnableOperation}
 use Rattle.states.specs.States.{is}
-use Rattle.drive.specs.Control.{controlCommandOf}
+use Rattle.control.specs.Control.{controlCommandOf, rises}
 
 -- commands are told apart by number
 abbrev pub commandNumber : ControlCommand → ℕ
@@ -74,10 +73,6 @@ quietOf OperationEnabled c still option = fromState OperationEnabled c bullets
 quietOf QuickStopActive c still option = quickStopOf c still option
 quietOf FaultReaction c still option = FaultReaction
 quietOf Fault c still option = Fault
-
--- a control bit that is set now and was not in the word before
-abbrev pub rises : ℕ → ℕ → ℕ → Bool
-rises before control place = bitOf control place && not (bitOf before place)
 
 -- "An alarm moves every state but the two fault states to Fault reaction. Fault reaction goes to Fault. Fault goes to Switch on disabled
 -- when control bit 7 rises and no alarm is present."

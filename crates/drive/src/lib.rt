@@ -1,44 +1,9 @@
-// The drive's state machine (CiA 402): what a control word asks, and the state after a tick.
+// The drive's state machine (CiA 402): the state after a tick.
+use control::ControlCommand;
 use states::State;
 ghost use mathlib.Core.Path.{_≡_};
 ghost use mathlib.Core.Bool.{cond};
-ghost use Rattle.drive.specs.Control.{controlCommandOf};
-ghost use Rattle.drive.specs.Transitions.{fromState, bullets, standstillOf, quickStopOf, quietOf, settled, rises, nextOf};
-
-// What a control word asks of the drive; nothing where its bit 7, fault reset, is set.
-pub enum ControlCommand {
-    Nothing,
-    DisableVoltage,
-    QuickStop,
-    Shutdown,
-    SwitchOn,
-    EnableOperation,
-}
-
-pub fn control_command(control: u16) -> ControlCommand
-    ensures { λ r. ⌜ r ≡ controlCommandOf control ⌝ }
-{
-    if counts::bit(control, 7) {
-        return ControlCommand::Nothing;
-    }
-    if counts::bit(control, 1) {
-        if counts::bit(control, 2) {
-            if counts::bit(control, 0) {
-                if counts::bit(control, 3) {
-                    ControlCommand::EnableOperation
-                } else {
-                    ControlCommand::SwitchOn
-                }
-            } else {
-                ControlCommand::Shutdown
-            }
-        } else {
-            ControlCommand::QuickStop
-        }
-    } else {
-        ControlCommand::DisableVoltage
-    }
-}
+ghost use Rattle.drive.specs.Transitions.{fromState, bullets, standstillOf, quickStopOf, quietOf, settled, nextOf};
 
 fn from_disabled(command: ControlCommand) -> State
     ensures { λ r. ⌜ r ≡ fromState State.SwitchOnDisabled command bullets ⌝ }
@@ -142,15 +107,8 @@ fn settle(state: State, alarm: bool, reset: bool, quiet: State) -> State
 pub fn next(state: State, control: u16, before: u16, still: bool, option: u32, alarm: u32) -> State
     ensures { λ r. ⌜ r ≡ nextOf state control before still option alarm ⌝ }
 {
-    let reset = rising(before, control, 7);
-    let command = control_command(control);
+    let reset = control::rising(before, control, 7);
+    let command = control::control_command(control);
     let calm = quiet(state, command, still, option);
     settle(state, alarm != 0, reset, calm)
-}
-
-// Whether a control bit is set now and was not in the word before.
-pub fn rising(before: u16, control: u16, place: u32) -> bool
-    ensures { λ r. ⌜ r ≡ rises before control place ⌝ }
-{
-    counts::bit(control, place) & !counts::bit(before, place)
 }

@@ -10,7 +10,7 @@ use Rattle.states.specs.declared.State.{State}
 use Rattle.states.specs.declared.State.the-variants.{OperationEnabled}
 use Rattle.states.specs.States.{is}
 use Rattle.settings.specs.declared.Settings.{Settings}
-use Rattle.settings.specs.Gear.{gearedOf}
+use Rattle.gears.specs.Gear.{gearedOf}
 use Rattle.position.specs.declared.Followed.{Followed}
 use Rattle.position.specs.declared.Followed.the-variants.{Target, Nothing}
 

@@ -1,6 +1,5 @@
 // The position that a tick commands: the followed target as a count, or the actual position.
 use settings::Settings;
-use settings::gear;
 use states::State;
 ghost use mathlib.Core.Path.{_≡_};
 ghost use Rattle.position.specs.Position.{followedOf, limitedOf, placeOf, positionOf, outsideOf, clampedOf};
@@ -34,7 +33,7 @@ fn place(s: Settings, home: i32, target: i32) -> i32
     ensures { λ r. ⌜ r ≡ placeOf s home target ⌝ }
 {
     let near = limited(s, target);
-    let count = gear::geared(s, near);
+    let count = gears::geared(s, near);
     counts::sum(home, count)
 }
 

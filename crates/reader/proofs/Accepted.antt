@@ -12,7 +12,7 @@ use Rattle.settings.specs.declared.Verdict.{Verdict}
 use Rattle.settings.specs.declared.Verdict.the-variants.{Accepted, Refused}
 use Rattle.settings.specs.declared.Settings.{Settings}
 use Rattle.settings.specs.Refusal.{numberOf}
-use Rattle.settings.specs.Check.{limitsVerdict}
+use Rattle.checks.specs.Check.{limitsVerdict}
 use Rattle.words.specs.Word.{kindOf, dataOf, wordOf}
 use Rattle.words.specs.Encode.{checksumOf}
 use Rattle.words.specs.Decode.{settingsOf}

@@ -12,10 +12,10 @@ use Rattle.settings.specs.declared.Verdict.{Verdict}
 use Rattle.settings.specs.declared.Verdict.the-variants.{Accepted, Refused}
 use Rattle.settings.specs.declared.Settings.{Settings}
 use Rattle.settings.specs.Refusal.{verdictNumber}
-use Rattle.settings.specs.Check.{limitsVerdict}
-use Rattle.settings.specs.Cases as settings
-use Rattle.settings.proofs.First.{hit, skip, miss}
-use Rattle.settings.proofs.Numbers.{limits-number}
+use Rattle.checks.specs.Check.{limitsVerdict}
+use Rattle.checks.specs.Cases as checks
+use Rattle.checks.proofs.First.{hit, skip, miss}
+use Rattle.checks.proofs.Numbers.{limits-number}
 use Rattle.words.specs.Word.{kindOf, dataOf}
 use Rattle.words.specs.Encode.{checksumOf}
 use Rattle.words.specs.Decode.{settingsOf}
@@ -42,12 +42,12 @@ module _ (p : Pending) (w : ℕ) where
       (cond (limitsCrossed p w) 5
       (cond (outOfReach p w) 6 0)))))
 
-  end-number : outcomeNumber (endOf p (dataOf w) .outcome) ≡ cond (not (eqb (dataOf w) (checksumOf (p .values)))) 4 (cond (settings.limitsCrossed s) 5 (cond (settings.outOfReach s) 6 0))
+  end-number : outcomeNumber (endOf p (dataOf w) .outcome) ≡ cond (not (eqb (dataOf w) (checksumOf (p .values)))) 4 (cond (checks.limitsCrossed s) 5 (cond (checks.outOfReach s) 6 0))
   unfolding endOf
   end-number = go (eqb (dataOf w) (checksumOf (p .values)))
     where
       go : (a : Bool)
-          → outcomeNumber (cond a (judged s (limitsVerdict s)) (refused ChecksumMismatch) .outcome) ≡ cond (not a) 4 (cond (settings.limitsCrossed s) 5 (cond (settings.outOfReach s) 6 0))
+          → outcomeNumber (cond a (judged s (limitsVerdict s)) (refused ChecksumMismatch) .outcome) ≡ cond (not a) 4 (cond (checks.limitsCrossed s) 5 (cond (checks.outOfReach s) 6 0))
       go true = judged-number s (limitsVerdict s) ∙ limits-number s
       go false = refl
 
@@ -69,8 +69,8 @@ module _ (p : Pending) (w : ℕ) where
           (cond (k && not (eqb (dataOf w) 1)) 2
           (cond (not k && not e && not (fieldOk (kindOf w) (dataOf w))) 3
           (cond (e && not (eqb (dataOf w) (checksumOf (p .values)))) 4
-          (cond (e && settings.limitsCrossed s) 5
-          (cond (e && settings.outOfReach s) 6 0)))))
+          (cond (e && checks.limitsCrossed s) 5
+          (cond (e && checks.outOfReach s) 6 0)))))
       go true k h e i = refl
       go false true h true i = absurd (omega (arith, eqb-true (kindOf w) 0 h, eqb-true (kindOf w) 15 i))
       go false true h false i = start (eqb (dataOf w) 1)

@@ -4,7 +4,7 @@
 use Prim.Native.Nat.{ℕ}
 use mathlib.Core.Bool.{Bool, not, _&&_, _||_}
 use lib.Dec.{eqb}
-use Rattle.settings.specs.Cases as settings
+use Rattle.checks.specs.Cases as checks
 use Rattle.words.specs.Word.{kindOf, dataOf}
 use Rattle.words.specs.Encode.{checksumOf}
 use Rattle.words.specs.Decode.{settingsOf}
@@ -32,7 +32,7 @@ checksumMismatch p w = isEnd w && not (eqb (dataOf w) (checksumOf (p .values)))
 
 -- 5 and 6, of the settings that an end word closes
 abbrev pub limitsCrossed : Pending → ℕ → Bool
-limitsCrossed p w = isEnd w && settings.limitsCrossed (settingsOf (p .values))
+limitsCrossed p w = isEnd w && checks.limitsCrossed (settingsOf (p .values))
 
 abbrev pub outOfReach : Pending → ℕ → Bool
-outOfReach p w = isEnd w && settings.outOfReach (settingsOf (p .values))
+outOfReach p w = isEnd w && checks.outOfReach (settingsOf (p .values))

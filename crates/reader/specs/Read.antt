@@ -12,7 +12,7 @@ use Rattle.settings.specs.declared.Verdict.{Verdict}
 use Rattle.settings.specs.declared.Verdict.the-variants.{Accepted}
 use Rattle.settings.specs.declared.Verdict.the-variants as verdict
 use Rattle.settings.specs.Refusal.{numberOf}
-use Rattle.settings.specs.Check.{limitsVerdict}
+use Rattle.checks.specs.Check.{limitsVerdict}
 use Rattle.reader.specs.declared.Pending.{Pending}
 use Rattle.reader.specs.declared.Outcome.{Outcome}
 use Rattle.reader.specs.declared.Outcome.the-variants.{Refused, Stored, Complete}

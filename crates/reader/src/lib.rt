@@ -6,7 +6,7 @@ use words::KIND;
 use words::decoder;
 ghost use mathlib.Core.Path.{_≡_};
 ghost use Prim.Native.Nat.{_<_};
-ghost use Rattle.settings.specs.Check.{limitsVerdict};
+ghost use Rattle.checks.specs.Check.{limitsVerdict};
 ghost use Rattle.reader.specs.Fields.{torqueLimitsOk, fieldOk};
 ghost use Rattle.reader.specs.Read.{emptyPending, dueKind, refused, startOf, fieldOf, judged, endOf, readOf};
 
@@ -127,7 +127,7 @@ impl Pending {
     fn judge(self, s: Settings) -> Reading
         ensures { λ r. ⌜ r ≡ judged s (limitsVerdict s) ⌝ }
     {
-        let verdict = settings::check_limits(s);
+        let verdict = checks::check_limits(s);
         match verdict {
             Verdict::Accepted => Reading {
                 outcome: Outcome::Complete(s),

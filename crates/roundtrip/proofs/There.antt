@@ -9,8 +9,8 @@ use borrow.Author.Tests.{eq-eqb, lt-ltb}
 use lib.ListN.{length, drop}
 use Rattle.settings.specs.declared.Settings.{Settings}
 use Rattle.settings.specs.declared.Verdict.the-variants.{Accepted}
-use Rattle.settings.specs.Check.{acceptable, limitsVerdict}
-use Rattle.settings.proofs.Numbers.{passes}
+use Rattle.checks.specs.Check.{acceptable, limitsVerdict}
+use Rattle.checks.proofs.Numbers.{passes}
 use Rattle.words.specs.Word.{kindOf, dataOf, wordOf}
 use Rattle.words.specs.Encode.{valuesOf, checksumOf, wordsFrom, wordsOf}
 use Rattle.words.specs.Decode.{settingsOf}

@@ -13,8 +13,8 @@ use Rattle.counts.specs.Clamp.{clamped}
 use Rattle.settings.specs.declared.Settings.{Settings}
 use Rattle.ranges.specs.Range.{methodOk}
 use Rattle.settings.specs.Ranges.{inRange}
-use Rattle.settings.specs.Gear.{gearedOf, inReach}
-use Rattle.settings.specs.Check.{acceptable, limitsVerdict}
+use Rattle.gears.specs.Gear.{gearedOf, inReach}
+use Rattle.checks.specs.Check.{acceptable, limitsVerdict}
 use Rattle.words.specs.Encode.{valuesOf, total, checksumOf, wordsFrom, wordsOf}
 use Rattle.words.specs.Decode.{settingsOf}
 use Rattle.reader.specs.declared.Pending.{Pending}

@@ -5,7 +5,7 @@ use mathlib.Core.Path.{_≡_}
 use mathlib.Core.Bool.{true}
 use mathlib.Core.List.{List, [], _∷_, _++_}
 use Rattle.settings.specs.declared.Settings.{Settings}
-use Rattle.settings.specs.Check.{acceptable}
+use Rattle.checks.specs.Check.{acceptable}
 use Rattle.words.specs.Encode.{wordsOf}
 use Rattle.reader.specs.declared.Pending.{Pending}
 use Rattle.reader.specs.Read.{emptyPending, readOf}

@@ -1,4 +1,1 @@
-pub mod First
-pub mod Numbers
 pub mod Within
-pub mod Guards

@@ -1,5 +1,2 @@
 pub mod Refusal
 pub mod Ranges
-pub mod Gear
-pub mod Check
-pub mod Cases

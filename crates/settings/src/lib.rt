@@ -1,12 +1,10 @@
-// The settings of an axis (01: the sheet), what an acceptable set of them is, and why one is refused.
+// The settings of an axis (01: the sheet), whether every field is in its range, and all refusals by number.
 //
-// Settings are plain data: every value of every field is answered, and only `check` says whether they may be used.
+// Settings are plain data: every value of every field is answered, and only `checks::check` says whether they may be used.
 ghost use mathlib.Core.Path.{_≡_};
 ghost use Rattle.settings.specs.Refusal.{numberOf};
-ghost use Rattle.settings.specs.Check.{limitsApart, limitsVerdict, verdictOf};
 
 pub mod fields;
-pub mod gear;
 
 // Settings of one axis, by CiA 402's names. Positions are in user units, torques in thousandths of the rated torque.
 pub struct Settings {
@@ -68,37 +66,5 @@ pub fn number(refusal: Refusal) -> u32
         Refusal::DriveActive => 7,
         Refusal::NoSettings => 8,
         Refusal::BufferTooShort => 9,
-    }
-}
-
-fn limits_apart(s: Settings) -> bool
-    ensures { λ r. ⌜ r ≡ limitsApart s ⌝ }
-{
-    s.lower < s.upper
-}
-
-// Tests 5 and 6: the position limits, of settings whose fields have been tested already.
-pub fn check_limits(s: Settings) -> Verdict
-    ensures { λ r. ⌜ r ≡ limitsVerdict s ⌝ }
-{
-    if limits_apart(s) {
-        if gear::in_reach(s) {
-            Verdict::Accepted
-        } else {
-            Verdict::Refused(Refusal::OutOfReach)
-        }
-    } else {
-        Verdict::Refused(Refusal::LimitsCrossed)
-    }
-}
-
-// Tests 3, 5 and 6: whether settings may be used.
-pub fn check(s: Settings) -> Verdict
-    ensures { λ r. ⌜ r ≡ verdictOf s ⌝ }
-{
-    if fields::in_range(s) {
-        check_limits(s)
-    } else {
-        Verdict::Refused(Refusal::OutOfRange)
     }
 }

@@ -6,7 +6,8 @@ use mathlib.Core.Bool.{Bool, _&&_}
 use lib.IntN.{ℤ}
 use Rattle.settings.specs.declared.Settings.{Settings}
 use Rattle.states.specs.declared.State.{State}
-use Rattle.drive.specs.Transitions.{rises, nextOf}
+use Rattle.control.specs.Control.{rises}
+use Rattle.drive.specs.Transitions.{nextOf}
 use Rattle.states.specs.Alarm.{latchedOf}
 use Rattle.modes.specs.declared.Mode.{Mode}
 use Rattle.modes.specs.Modes.{shownOf, matchedOf}

@@ -11,7 +11,8 @@ use Rattle.settings.specs.declared.Settings.{Settings}
 use Rattle.states.specs.declared.State.{State}
 use Rattle.states.specs.declared.State.the-variants.{OperationEnabled}
 use Rattle.states.specs.States.{is}
-use Rattle.drive.specs.Transitions.{rises, nextOf}
+use Rattle.control.specs.Control.{rises}
+use Rattle.drive.specs.Transitions.{nextOf}
 use Rattle.modes.specs.declared.Mode.{Mode}
 use Rattle.modes.specs.declared.Mode.the-variants.{Homing}
 use Rattle.modes.specs.Modes.{isMode, shownOf, matchedOf}

@@ -111,7 +111,7 @@ pub fn reached(was: Motion, s: Settings, t: Tick) -> Moment
     let alarm = commands::alarms(demand, t.alarm);
     let state = drive::next(before, t.control, was.control, t.still, s.option, alarm);
     let on = homing_on(wanted, mode, state);
-    let starting = drive::rising(was.control, t.control, 4) & on;
+    let starting = control::rising(was.control, t.control, 4) & on;
     let view = view(was, t, on);
     let phase = phase_after(running, s.method, starting, view);
     let is_homed = motion::homed(phase);

@@ -13,10 +13,10 @@ use Rattle.settings.specs.declared.Settings.{Settings}
 use Rattle.settings.specs.declared.Refusal.the-variants.{BufferTooShort}
 use Rattle.settings.specs.declared.Verdict.the-variants.{Accepted, Refused}
 use Rattle.settings.specs.Refusal.{verdictNumber}
-use Rattle.settings.specs.Check.{acceptable, verdictOf}
-use Rattle.settings.specs.Cases.{outOfRange, limitsCrossed, outOfReach}
-use Rattle.settings.proofs.First.{hit, skip, miss}
-use Rattle.settings.proofs.Numbers.{check-number, accepts}
+use Rattle.checks.specs.Check.{acceptable, verdictOf}
+use Rattle.checks.specs.Cases.{outOfRange, limitsCrossed, outOfReach}
+use Rattle.checks.proofs.First.{hit, skip, miss}
+use Rattle.checks.proofs.Numbers.{check-number, accepts}
 use Rattle.writer.specs.Write.{writeVerdict}
 use Rattle.writer.specs.Cases.{bufferTooShort}
 

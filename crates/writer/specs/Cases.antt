@@ -1,4 +1,4 @@
--- The writer's own case of refusal; the others are the settings' (`Rattle.settings.specs.Cases`).
+-- The writer's own case of refusal; the others are the settings' (`Rattle.checks.specs.Cases`).
 -- Assumes nothing.
 use Prim.Native.Nat.{ℕ}
 use mathlib.Core.Bool.{Bool}

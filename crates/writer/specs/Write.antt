@@ -9,7 +9,7 @@ use Rattle.settings.specs.declared.Settings.{Settings}
 use Rattle.settings.specs.declared.Refusal.the-variants.{BufferTooShort}
 use Rattle.settings.specs.declared.Verdict.{Verdict}
 use Rattle.settings.specs.declared.Verdict.the-variants.{Accepted, Refused}
-use Rattle.settings.specs.Check.{verdictOf}
+use Rattle.checks.specs.Check.{verdictOf}
 use Rattle.words.specs.Encode.{wordsOf}
 
 -- "the writer 9, 3, 5, 6"

@@ -64,7 +64,7 @@ pub fn write(s: Settings, buffer: &mut [u32]) -> Verdict
     if buffer.len() < 15 {
         return Verdict::Refused(Refusal::BufferTooShort);
     }
-    let verdict = settings::check(s);
+    let verdict = checks::check(s);
     match verdict {
         Verdict::Refused(refusal) => Verdict::Refused(refusal),
         Verdict::Accepted => {

@@ -9,8 +9,8 @@ use lib.ListN.{length}
 use Rattle.settings.specs.declared.Settings.{Settings}
 use Rattle.settings.specs.declared.Verdict.the-variants.{Accepted}
 use Rattle.settings.specs.Ranges.{inRange}
-use Rattle.settings.specs.Check.{verdictOf}
-use Rattle.settings.proofs.Numbers.{accepts, passes}
+use Rattle.checks.specs.Check.{verdictOf}
+use Rattle.checks.proofs.Numbers.{accepts, passes}
 use Rattle.words.specs.Encode.{valuesOf, wordsOf}
 use Rattle.writer.specs.Write.{writeVerdict}
 use Rattle.words.proofs.Widths.{values-below, below-at}

@@ -1,0 +1,23 @@
+-- On settings in range the gear's guards change nothing.
+-- Assumes nothing.
+use Prim.Native.Nat.{_≤_, _^_}
+use mathlib.Core.Path.{_≡_}
+use mathlib.Core.Bool.{true}
+use native.Mathlib.Omega.{arith}
+use borrow.Author.Tests.{leb-true}
+use lib.Dec.{leb}
+use Rattle.settings.specs.declared.Settings.{Settings}
+use Rattle.settings.specs.Ranges.{inRange}
+use Rattle.gears.specs.Gear.{cappedNumerator, positiveDenominator}
+use Rattle.settings.proofs.Within.{within, both}
+
+module _ (s : Settings) (e : inRange s ≡ true) where
+  pub numerator-kept : cappedNumerator s ≡ s .numerator
+  numerator-kept =
+      let b = both (leb 1 (s .numerator)) (leb (s .numerator) (2 ^ 20)) (within s e .numerator) in
+      omega (arith, leb-true (s .numerator) (2 ^ 20) (b .1))
+
+  pub denominator-kept : positiveDenominator s ≡ s .denominator
+  denominator-kept =
+      let b = both (leb 1 (s .denominator)) (leb (s .denominator) (2 ^ 20)) (within s e .denominator) in
+      omega (arith, leb-true 1 (s .denominator) (b .0))
