@@ -1,18 +1,19 @@
 -- `exports::axis_write` meets its contract: it is the writer, over settings read from their fields.
 -- Assumes nothing.
-use mathlib.Core.Path.{_∙_}
+use mathlib.Core.Path.{ap, _∙_}
+use Rattle.answers.specs.declared.Answer.{Answer}
 use borrow.Author.Needs.{needs}
 use Rattle.exports.proofs.axis_write.Statement.{statement}
 use Rattle.exports.proofs.axis_write.Tie as tie
 
 settings-in-requires : tie.Need-settings-in-requires
-settings-in-requires c κs = search needs
+settings-in-requires c κs = tt
 
 write-requires : tie.Need-write-requires
-write-requires c κs = search needs
+write-requires c κs = tt
 
-number-requires : tie.Need-number-requires
-number-requires c κs = search needs
+word-answer-requires : tie.Need-word-answer-requires
+word-answer-requires c κs = tt
 
 same-length : tie.Need-same-length
 same-length c = search needs
@@ -22,8 +23,9 @@ returns c =
     let w = c .before .before .before in
     let e = w .write .ensures in
     let s = w .before .before .settings-in .ensures in
-    (c .number .ensures ∙ rw (e .0, s), rw s at (e .1))
+    (ap (λ (a : Answer). a .number) (c .word-answer .ensures) ∙ rw (e .0, s), rw s at (e .1))
 
 pub axis-write-spec : {M : Type 1} → statement M
 axis-write-spec =
-    tie.close (tie.spec settings-in-requires write-requires number-requires same-length returns)
+    tie.close
+    (tie.spec settings-in-requires write-requires word-answer-requires same-length returns)

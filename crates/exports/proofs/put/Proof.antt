@@ -1,141 +1,91 @@
--- `exports::put` meets its contract: seven stores in a row.
+-- `exports::put` meets its contract: after k turns the first k words are in place.
 -- Assumes nothing.
-use mir.Facts.{toZ-ofZ}
-use mir.Syntax.{w32}
-use mir.Val.{SFits}
-use Rattle.exports.specs.Run.{putAt}
-use mathlib.Core.Path.{refl}
-use lib.ListN.{length-set}
+use Prim.Native.Nat.{_-_, _≤_}
+use mathlib.Core.Path.{_≡_, refl, ap, _∙_}
+use native.Mathlib.Numerals.{add-one}
 use native.Mathlib.Omega.{arith}
+use lib.ListN.{length, length-set}
+use lib.Seq.{paste, paste-zero, paste-suc}
+use Rattle.exports.specs.Run.{putAt}
+use Rattle.exports.proofs.Sevens.{pasted}
 use borrow.Author.Needs.{needs}
 use Rattle.exports.proofs.put.Statement.{statement}
 use Rattle.exports.proofs.put.Tie as tie
 
-mul-answers : tie.Need-mul-answers
-mul-answers c = search needs
+abbrev Inv-loop : tie.InvT-loop
+Inv-loop answers₀ at words k₀ answers k = (k ≤ 7) × (answers ≡ paste answers₀ at words k) × (length answers ≡ length answers₀)
 
-slice-write-answers : tie.Need-slice-write-answers
-slice-write-answers c = search needs
+abbrev μ-loop : tie.MeasureT-loop
+μ-loop answers₀ at words k₀ answers k = 7 - k
 
-pattern-requires : tie.Need-pattern-requires
-pattern-requires c κs = search needs
+answer-words-requires : tie.Need-answer-words-requires Inv-loop μ-loop
+answer-words-requires c κs = tt
 
-add-answers : tie.Need-add-answers
-add-answers c = search needs
+loop-holds : tie.Need-loop-holds Inv-loop μ-loop
+loop-holds c = let a = c .before .before .args in (omega arith, paste-zero (a .answers .now) (a .at) (c .answer-words .result), refl)
 
-mul-answers-2 : tie.Need-mul-answers-2
-mul-answers-2 c = search needs
+mul-answers : tie.Need-mul-answers Inv-loop μ-loop
+mul-answers c = omega arith
 
-slice-write-answers-2 : tie.Need-slice-write-answers-2
-slice-write-answers-2 c = simp length-set (omega arith)
+array-read-answers : tie.Need-array-read-answers Inv-loop μ-loop
+array-read-answers c = omega arith
 
-pattern-requires-2 : tie.Need-pattern-requires-2
-pattern-requires-2 c κs = search needs
+add-answers : tie.Need-add-answers Inv-loop μ-loop
+add-answers c = omega arith
 
-add-answers-2 : tie.Need-add-answers-2
-add-answers-2 c = search needs
+mul-answers-2 : tie.Need-mul-answers-2 Inv-loop μ-loop
+mul-answers-2 c = omega arith
 
-mul-answers-3 : tie.Need-mul-answers-3
-mul-answers-3 c = search needs
+slice-write-answers : tie.Need-slice-write-answers Inv-loop μ-loop
+slice-write-answers c = omega arith
 
-slice-write-answers-3 : tie.Need-slice-write-answers-3
-slice-write-answers-3 c = simp length-set (omega arith)
+add-k : tie.Need-add-k Inv-loop μ-loop
+add-k c = omega arith
 
-pattern-requires-3 : tie.Need-pattern-requires-3
-pattern-requires-3 c κs = search needs
+loop-less : tie.Need-loop-less Inv-loop μ-loop
+loop-less c = omega arith
 
-add-answers-3 : tie.Need-add-answers-3
-add-answers-3 c = search needs
-
-mul-answers-4 : tie.Need-mul-answers-4
-mul-answers-4 c = search needs
-
-slice-write-answers-4 : tie.Need-slice-write-answers-4
-slice-write-answers-4 c = simp length-set (omega arith)
-
-cast-answers : tie.Need-cast-answers
-cast-answers c = search needs
-
-add-answers-4 : tie.Need-add-answers-4
-add-answers-4 c = search needs
-
-mul-answers-5 : tie.Need-mul-answers-5
-mul-answers-5 c = search needs
-
-slice-write-answers-5 : tie.Need-slice-write-answers-5
-slice-write-answers-5 c = simp length-set (omega arith)
-
-pattern-requires-4 : tie.Need-pattern-requires-4
-pattern-requires-4 c κs = search needs
-
-add-answers-5 : tie.Need-add-answers-5
-add-answers-5 c = search needs
-
-mul-answers-6 : tie.Need-mul-answers-6
-mul-answers-6 c = search needs
-
-slice-write-answers-6 : tie.Need-slice-write-answers-6
-slice-write-answers-6 c = simp length-set (omega arith)
-
-add-answers-6 : tie.Need-add-answers-6
-add-answers-6 c = search needs
-
-mul-answers-7 : tie.Need-mul-answers-7
-mul-answers-7 c = search needs
-
-slice-write-answers-7 : tie.Need-slice-write-answers-7
-slice-write-answers-7 c = simp length-set (omega arith)
-
-same-length : tie.Need-same-length
-same-length c = simp length-set refl
-
-returns : tie.Need-returns
-unfolding putAt
-returns c =
-    let s = c .before .before .before .before .before .before .before .before .before .before in
-    let t : SFits w32 (s .args .a .torque) = search needs in
-    let v : SFits w32 (s .args .a .speed) = search needs in
-    let p : SFits w32 (s .args .a .position) = search needs in
-    let m : SFits w32 (s .args .a .mode) = search needs in
-    rw (
-      c .pattern4 .ensures,
-      c .before .before .before .pattern3 .ensures,
-      c .before .before .before .before .before .pattern2 .ensures,
-      c .before .before .before .before .before .before .before .pattern .ensures,
-      toZ-ofZ t,
-      toZ-ofZ v,
-      toZ-ofZ p,
-      toZ-ofZ m,
+loop-again : tie.Need-loop-again Inv-loop μ-loop
+loop-again c =
+    let l = c .before in
+    let a = l .before .before .before .args in
+    let w = l .before .answer-words .result in
+    let n : length w ≡ 7 = search needs in (
+      omega arith,
+      rw (add-one, l .loop .inv .1) (paste-suc (a .answers .now) (a .at) w (l .loop .k) 0 (omega arith) (omega arith)),
+      simp length-set (l .loop .inv .2),
     )
+
+same-length : tie.Need-same-length Inv-loop μ-loop
+same-length c = c .before .loop .inv .2
+
+returns : tie.Need-returns Inv-loop μ-loop
+returns c =
+    let l = c .before in
+    let w = l .before .answer-words in
+    let n : length (w .result) ≡ 7 = search needs in
+    let a = l .before .before .before .args in
+    let e : l .loop .k ≡ 7 = omega arith in
+    l .loop .inv .1
+    ∙ ap (paste (a .answers .now) (a .at) (w .result)) e
+    ∙ pasted (a .answers .now) (a .at) (w .result) n
+    ∙ ap (putAt (a .answers .now) (a .at)) (w .ensures)
 
 pub put-spec : {M : Type 1} → statement M
 put-spec =
     tie.close
     (tie.spec
+    Inv-loop
+    μ-loop
+    answer-words-requires
+    loop-holds
     mul-answers
-    slice-write-answers
-    pattern-requires
+    array-read-answers
     add-answers
     mul-answers-2
-    slice-write-answers-2
-    pattern-requires-2
-    add-answers-2
-    mul-answers-3
-    slice-write-answers-3
-    pattern-requires-3
-    add-answers-3
-    mul-answers-4
-    slice-write-answers-4
-    cast-answers
-    add-answers-4
-    mul-answers-5
-    slice-write-answers-5
-    pattern-requires-4
-    add-answers-5
-    mul-answers-6
-    slice-write-answers-6
-    add-answers-6
-    mul-answers-7
-    slice-write-answers-7
+    slice-write-answers
+    add-k
+    loop-less
+    loop-again
     same-length
     returns)

@@ -1,0 +1,64 @@
+-- `records::command` meets its contract.
+-- Assumes nothing.
+use borrow.Author.Tests.{ne-eqb}
+use Rattle.records.specs.Words.{commandIn}
+use Rattle.records.proofs.Numbers.{read16, read32}
+use Rattle.records.proofs.command.Statement.{statement}
+use Rattle.records.proofs.command.Tie as tie
+
+word-requires : tie.Need-word-requires
+word-requires c κs = tt
+
+request-requires : tie.Need-request-requires
+request-requires c κs = tt
+
+gains-requires : tie.Need-gains-requires
+gains-requires c κs = tt
+
+signed-requires : tie.Need-signed-requires
+signed-requires c κs = tt
+
+returns : tie.Need-returns
+unfolding commandIn
+returns c =
+    let r = c .before .before in
+    rw (c .gains .ensures, ← r .before .word .ensures, c .before .match .keys1)
+
+returns-2 : tie.Need-returns-2
+unfolding commandIn
+returns-2 c =
+    let r = c .before in
+    rw (read16 (r .request .result) (r .request .ok), r .request .ensures, ← r .before .word .ensures, c .match .keys2)
+
+returns-3 : tie.Need-returns-3
+unfolding commandIn
+returns-3 c =
+    let r = c .before .before in
+    rw (read16 (r .request .result) (r .request .ok), read32 (c .signed .result) (c .signed .ok), r .request .ensures, c .signed .ensures, ← r .before .word .ensures, c .before .match .keys3)
+
+returns-4 : tie.Need-returns-4
+unfolding commandIn
+returns-4 c =
+    let r = c .before in
+    rw (read16 (r .request .result) (r .request .ok), r .request .ensures, ← r .before .word .ensures, c .match .keys4)
+
+returns-5 : tie.Need-returns-5
+unfolding commandIn
+returns-5 c =
+    let k = c .before .before .word .result in
+    let r = c .match .rest in
+    rw (← c .before .before .word .ensures, ne-eqb k 1 (r .0 .0 .0 .1), ne-eqb k 2 (r .0 .0 .1), ne-eqb k 3 (r .0 .1), ne-eqb k 4 (r .1))
+
+pub command-spec : {M : Type 1} → statement M
+command-spec =
+    tie.close
+    (tie.spec
+    word-requires
+    request-requires
+    gains-requires
+    signed-requires
+    returns
+    returns-2
+    returns-3
+    returns-4
+    returns-5)

@@ -1,0 +1,84 @@
+-- `records::tick` meets its contract.
+-- Assumes nothing.
+use Prim.Native.Nat.{ℕ}
+use mathlib.Core.Path.{_≡_, _∙_}
+use mathlib.Core.Bool.{Bool}
+use mathlib.Core.List.{List}
+use lib.Ieee.{Float}
+use lib.IntN.{ℤ}
+use Rattle.counts.specs.Bit.{bitOf}
+use Rattle.commands.specs.declared.Command.{Command}
+use Rattle.torque.specs.declared.LimitSet.{LimitSet}
+use Rattle.legs.specs.declared.events.Switches.{Switches}
+use Rattle.ticks.specs.declared.Tick.{Tick}
+use Rattle.records.specs.Words.{wordAt, signedAt, halfAt, switchesIn, setOf, commandIn, tickIn}
+use Rattle.records.proofs.Numbers.{read32}
+use Rattle.records.proofs.tick.Statement.{statement}
+use Rattle.records.proofs.tick.Tie as tie
+
+half-requires : tie.Need-half-requires
+half-requires c κs = tt
+
+command-requires : tie.Need-command-requires
+command-requires c κs = tt
+
+switches-requires : tie.Need-switches-requires
+switches-requires c κs = tt
+
+bit-requires : tie.Need-bit-requires
+bit-requires c κs = tt
+
+limit-set-requires : tie.Need-limit-set-requires
+limit-set-requires c κs = tt
+
+half-requires-2 : tie.Need-half-requires-2
+half-requires-2 c κs = tt
+
+signed-requires : tie.Need-signed-requires
+signed-requires c κs = tt
+
+bit-requires-2 : tie.Need-bit-requires-2
+bit-requires-2 c κs = tt
+
+word-requires : tie.Need-word-requires
+word-requires c κs = tt
+
+-- its parts decide it
+built : (e : List ℕ) (f : List Float) {i h a : ℕ} {m : Command} {p : ℤ} {w : Switches} {b d : Bool} {l : LimitSet}
+    → i ≡ halfAt e 3 → h ≡ halfAt e 1 → m ≡ commandIn e f → p ≡ signedAt e 2 → w ≡ switchesIn i → b ≡ bitOf i 4 → d ≡ bitOf i 5 → l ≡ setOf d → a ≡ wordAt e 4
+    → _≡_ {A = Tick} (record { control = h; command = m; position = p; switches = w; still = b; set = l; alarm = a }) (tickIn e f)
+unfolding tickIn
+built e f i h m p w b d l a = rw (h, m, p, w, b, l, d, a, i)
+
+returns : tie.Need-returns
+returns c =
+    let s = c .before .before in
+    let l = s .before .before in
+    let w = l .before .before in
+    built
+    _
+    _
+    (w .before .before .half .ensures)
+    (s .before .half2 .ensures)
+    (w .before .command .ensures)
+    (read32 (s .signed .result) (s .signed .ok) ∙ s .signed .ensures)
+    (w .switches .ensures)
+    (c .before .bit2 .ensures)
+    (l .before .bit .ensures)
+    (l .limit-set .ensures)
+    (c .word .ensures)
+
+pub tick-spec : {M : Type 1} → statement M
+tick-spec =
+    tie.close
+    (tie.spec
+    half-requires
+    command-requires
+    switches-requires
+    bit-requires
+    limit-set-requires
+    half-requires-2
+    signed-requires
+    bit-requires-2
+    word-requires
+    returns)

@@ -1,0 +1,120 @@
+-- Events, answers and settings as plain 32-bit words.
+-- An event is seven: what it is (0 a settings word, 1 hybrid, 2 homing, 3 position, 4 torque, any other number rest); the settings word,
+-- or the control word; actual position; inputs (bits 0 to 3: POT, NOT, HOM, Z; 4: standstill; 5: limit set 2); alarm word; torque request;
+-- target. Hybrid's seven floats stand in a list of their own.
+-- Assumes nothing.
+use Prim.Native.Nat.{ℕ, _%_, _^_}
+use mathlib.Core.Bool.{Bool, true, false, cond}
+use mathlib.Core.List.{List, [], _∷_}
+use lib.Dec.{eqb}
+use lib.Ieee.{Float, binary32, ofBits}
+use lib.IntN.{ℤ, pos, negsuc}
+use lib.ListN.{getD}
+use Rattle.counts.specs.Bit.{bitOf}
+use Rattle.counts.specs.Clamp.{clamped}
+use Rattle.counts.specs.Wrap.{modulo, wrapped}
+use Rattle.settings.specs.declared.Settings.{Settings}
+use Rattle.settings.specs.declared.Verdict.{Verdict}
+use Rattle.settings.specs.Refusal.{verdictNumber}
+use Rattle.hybrid.specs.declared.Hybrid.{Hybrid}
+use Rattle.commands.specs.declared.Command.{Command}
+use Rattle.commands.specs.declared.Command.the-variants as command
+use Rattle.torque.specs.declared.LimitSet.{LimitSet}
+use Rattle.torque.specs.declared.LimitSet.the-variants.{Set1, Set2}
+use Rattle.legs.specs.declared.events.Switches.{Switches}
+use Rattle.ticks.specs.declared.Tick.{Tick}
+use Rattle.answers.specs.declared.Answer.{Answer}
+
+-- past the last stand zeros
+abbrev pub wordAt : List ℕ → ℕ → ℕ
+wordAt e k = getD e k 0
+
+abbrev pub floatAt : List Float → ℕ → Float
+floatAt f k = getD f k (ofBits binary32 0)
+
+-- a word read as signed
+abbrev pub signedAt : List ℕ → ℕ → ℤ
+signedAt e k = wrapped (pos (wordAt e k))
+
+-- its low half
+abbrev pub halfAt : List ℕ → ℕ → ℕ
+halfAt e k = wordAt e k % 2 ^ 16
+
+-- a torque request has 16 bits
+abbrev pub requestAt : List ℕ → ℕ → ℤ
+requestAt e k = clamped (signedAt e k) (negsuc 32767) (pos 32767)
+
+abbrev pub switchesIn : ℕ → Switches
+switchesIn inputs = record { positive = bitOf inputs 0; negative = bitOf inputs 1; home = bitOf inputs 2; index = bitOf inputs 3 }
+
+abbrev pub setOf : Bool → LimitSet
+setOf true = Set2
+setOf false = Set1
+
+unfoldable pub gainsIn : List Float → Hybrid
+gainsIn f =
+    record {
+      kp = floatAt f 0;
+      kd = floatAt f 1;
+      pd = floatAt f 2;
+      vd = floatAt f 3;
+      t = floatAt f 4;
+      p = floatAt f 5;
+      v = floatAt f 6;
+    }
+
+unfoldable pub commandIn : List ℕ → List Float → Command
+commandIn e f =
+    cond (eqb (wordAt e 0) 1) (command.Hybrid (gainsIn f))
+    (cond (eqb (wordAt e 0) 2) (command.Homing (requestAt e 5))
+    (cond (eqb (wordAt e 0) 3) (command.Position (signedAt e 6) (requestAt e 5))
+    (cond (eqb (wordAt e 0) 4) (command.Torque (requestAt e 5)) command.Rest)))
+
+unfoldable pub tickIn : List ℕ → List Float → Tick
+tickIn e f =
+    record {
+      control = halfAt e 1;
+      command = commandIn e f;
+      position = signedAt e 2;
+      switches = switchesIn (halfAt e 3);
+      still = bitOf (halfAt e 3) 4;
+      set = setOf (bitOf (halfAt e 3) 5);
+      alarm = wordAt e 4;
+    }
+
+-- a settings word is answered by its number
+abbrev pub said : Verdict → Answer
+said v = record { number = verdictNumber v; torque = pos 0; speed = pos 0; position = pos 0; status = 0; mode = pos 0; alarm = 0 }
+
+-- an answer's number, torque, speed, position, statusword, mode and alarm number
+unfoldable pub answerWords : Answer → List ℕ
+answerWords a =
+    a .number
+    ∷ modulo 32 (a .torque)
+    ∷ modulo 32 (a .speed)
+    ∷ modulo 32 (a .position)
+    ∷ a .status
+    ∷ modulo 32 (a .mode)
+    ∷ a .alarm
+    ∷ []
+
+-- fifteen fields in the order of the struct
+unfoldable pub settingsIn : List ℕ → Settings
+settingsIn f =
+    record {
+      method = wordAt f 0;
+      fast = wordAt f 1;
+      slow = wordAt f 2;
+      offset = signedAt f 3;
+      numerator = wordAt f 4;
+      denominator = wordAt f 5;
+      lower = signedAt f 6;
+      upper = signedAt f 7;
+      maximum = wordAt f 8;
+      positive1 = wordAt f 9;
+      negative1 = wordAt f 10;
+      positive2 = wordAt f 11;
+      negative2 = wordAt f 12;
+      option = wordAt f 13;
+      rated = wordAt f 14;
+    }

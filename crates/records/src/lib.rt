@@ -1,0 +1,184 @@
+// Events, answers and settings as plain 32-bit words (specs/Words.antt), for programs in other languages.
+//
+// Signed numbers stand as their 32-bit pattern. Every function answers every value of its arguments.
+use answers::Answer;
+use commands::Command;
+use hybrid::Hybrid;
+use legs::events::Switches;
+use settings::Settings;
+use settings::Verdict;
+use ticks::Tick;
+use torque::LimitSet;
+ghost use mathlib.Core.Path.{_≡_};
+ghost use Rattle.counts.specs.Wrap.{modulo};
+ghost use Rattle.records.specs.Words.{wordAt, floatAt, signedAt, halfAt, requestAt, gainsIn, switchesIn, setOf, commandIn, tickIn, settingsIn, said, answerWords};
+
+// A word; 0 past the last.
+fn word(words: &[u32], at: usize) -> u32
+    ensures { λ r. ⌜ r ≡ wordAt (now (words .entry)) at ⌝ }
+{
+    if at < words.len() { words[at] } else { 0 }
+}
+
+// A float; 0 past the last.
+fn float(floats: &[f32], at: usize) -> f32
+    ensures { λ r. ⌜ r ≡ floatAt (now (floats .entry)) at ⌝ }
+{
+    if at < floats.len() { floats[at] } else { 0.0 }
+}
+
+// A word read as signed.
+fn signed(words: &[u32], at: usize) -> i32
+    ensures { λ r. ⌜ r ≡ signedAt (now (words .entry)) at ⌝ }
+{
+    counts::wrap(word(words, at) as i64)
+}
+
+// A word's low half.
+fn half(words: &[u32], at: usize) -> u16
+    ensures { λ r. ⌜ r ≡ halfAt (now (words .entry)) at ⌝ }
+{
+    (word(words, at) % 65536) as u16
+}
+
+// A torque request, held within 16 bits.
+fn request(words: &[u32], at: usize) -> i16
+    ensures { λ r. ⌜ r ≡ requestAt (now (words .entry)) at ⌝ }
+{
+    counts::clamp(signed(words, at), -32768, 32767) as i16
+}
+
+// A number's 32-bit pattern.
+fn pattern(number: i32) -> u32
+    ensures { λ r. ⌜ r ≡ modulo 32 number ⌝ }
+{
+    ((number as i64 + 4294967296) as u64 % 4294967296) as u32
+}
+
+fn switches(inputs: u16) -> Switches
+    ensures { λ r. ⌜ r ≡ switchesIn inputs ⌝ }
+{
+    Switches {
+        positive: counts::bit(inputs, 0),
+        negative: counts::bit(inputs, 1),
+        home: counts::bit(inputs, 2),
+        index: counts::bit(inputs, 3),
+    }
+}
+
+fn limit_set(second: bool) -> LimitSet
+    ensures { λ r. ⌜ r ≡ setOf second ⌝ }
+{
+    if second {
+        LimitSet::Set2
+    } else {
+        LimitSet::Set1
+    }
+}
+
+fn gains(f: &[f32]) -> Hybrid
+    ensures { λ r. ⌜ r ≡ gainsIn (now (f .entry)) ⌝ }
+{
+    Hybrid {
+        kp: float(f, 0),
+        kd: float(f, 1),
+        pd: float(f, 2),
+        vd: float(f, 3),
+        t: float(f, 4),
+        p: float(f, 5),
+        v: float(f, 6),
+    }
+}
+
+fn command(e: &[u32], f: &[f32]) -> Command
+    ensures { λ r. ⌜ r ≡ commandIn (now (e .entry)) (now (f .entry)) ⌝ }
+{
+    let kind = word(e, 0);
+    let asked = request(e, 5);
+    match kind {
+        1 => Command::Hybrid(gains(f)),
+        2 => Command::Homing(asked),
+        3 => Command::Position(signed(e, 6), asked),
+        4 => Command::Torque(asked),
+        _ => Command::Rest,
+    }
+}
+
+// The tick of an event.
+pub fn tick(e: &[u32], f: &[f32]) -> Tick
+    ensures { λ r. ⌜ r ≡ tickIn (now (e .entry)) (now (f .entry)) ⌝ }
+{
+    let inputs = half(e, 3);
+    let command = command(e, f);
+    let switches = switches(inputs);
+    let set = limit_set(counts::bit(inputs, 5));
+    Tick {
+        control: half(e, 1),
+        command,
+        position: signed(e, 2),
+        switches,
+        still: counts::bit(inputs, 4),
+        set,
+        alarm: word(e, 4),
+    }
+}
+
+// The answer to a settings word: its number.
+pub fn word_answer(verdict: Verdict) -> Answer
+    ensures { λ r. ⌜ r ≡ said verdict ⌝ }
+{
+    match verdict {
+        Verdict::Accepted => Answer {
+            number: 0,
+            torque: 0,
+            speed: 0,
+            position: 0,
+            status: 0,
+            mode: 0,
+            alarm: 0,
+        },
+        Verdict::Refused(refusal) => answers::refused(refusal),
+    }
+}
+
+// An answer's seven words.
+pub fn answer_words(a: Answer) -> [u32; 7]
+    ensures { λ r. ⌜ r ≡ answerWords a ⌝ }
+{
+    let torque = pattern(a.torque);
+    let speed = pattern(a.speed);
+    let position = pattern(a.position);
+    let mode = pattern(a.mode);
+    [
+        a.number,
+        torque,
+        speed,
+        position,
+        a.status as u32,
+        mode,
+        a.alarm,
+    ]
+}
+
+// Settings from their fifteen fields, in the order of the struct.
+pub fn settings_in(f: &[u32]) -> Settings
+    ensures { λ r. ⌜ r ≡ settingsIn (now (f .entry)) ⌝ }
+{
+    Settings {
+        method: word(f, 0),
+        fast: word(f, 1),
+        slow: word(f, 2),
+        offset: signed(f, 3),
+        numerator: word(f, 4),
+        denominator: word(f, 5),
+        lower: signed(f, 6),
+        upper: signed(f, 7),
+        maximum: word(f, 8),
+        positive1: word(f, 9),
+        negative1: word(f, 10),
+        positive2: word(f, 11),
+        negative2: word(f, 12),
+        option: word(f, 13),
+        rated: word(f, 14),
+    }
+}
