@@ -7,8 +7,8 @@ use Rattle.motion.specs.Motion.{freshMotion}
 use Rattle.ticks.specs.declared.Tick.{Tick}
 use Rattle.answers.specs.declared.Answered.{Answered}
 use Rattle.answers.specs.Answer.{refusedAnswer, answeredIn}
-use Rattle.axis.specs.declared.Active.{Active}
-use Rattle.axis.specs.declared.Active.the-variants.{Nothing, Set}
+use Rattle.takeover.specs.declared.Active.{Active}
+use Rattle.takeover.specs.declared.Active.the-variants.{Nothing, Set}
 use Rattle.axis.specs.declared.Axis.{Axis}
 use Rattle.axis.specs.declared.Ticked.{Ticked}
 

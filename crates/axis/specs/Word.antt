@@ -1,18 +1,14 @@
 -- 01, "The sheet": what a settings word does to an axis.
 -- Assumes nothing.
 use Prim.Native.Nat.{ℕ}
-use mathlib.Core.Bool.{cond}
 use Rattle.settings.specs.declared.Settings.{Settings}
-use Rattle.settings.specs.declared.Refusal.the-variants.{DriveActive}
-use Rattle.settings.specs.declared.Verdict.{Verdict}
-use Rattle.settings.specs.declared.Verdict.the-variants as verdict
 use Rattle.reader.specs.declared.Pending.{Pending}
 use Rattle.reader.specs.declared.Outcome.{Outcome}
-use Rattle.reader.specs.declared.Outcome.the-variants.{Refused, Stored, Complete}
 use Rattle.reader.specs.Read.{readOf}
-use Rattle.states.specs.States.{liveOf}
 use Rattle.motion.specs.Motion.{idled}
-use Rattle.axis.specs.declared.Active.the-variants.{Set}
+use Rattle.takeover.specs.declared.Active.the-variants.{Set}
+use Rattle.takeover.specs.declared.Taken.{Taken}
+use Rattle.takeover.specs.Takeover.{takenOver}
 use Rattle.axis.specs.declared.Axis.{Axis}
 use Rattle.axis.specs.declared.Worded.{Worded}
 
@@ -34,14 +30,22 @@ activated s a =
       motion = idled (a .motion);
     }
 
-abbrev worded : Axis → Verdict → Worded
-worded a v = record { axis = a; verdict = v }
+-- the axis with what a word leaves in force, and the word's verdict
+abbrev pub worded : Axis → Taken → Worded
+worded a t =
+    record {
+      axis =
+          record {
+            active = t .active;
+            pending = a .pending;
+            motion = t .motion;
+          };
+      verdict = t .verdict;
+    }
 
--- by what the reader made of the word. 7: "end word while Operation enabled or Quick stop active"
+-- by what the reader made of the word
 abbrev pub taken : Axis → Outcome → Worded
-taken a (Refused r) = worded a (verdict.Refused r)
-taken a Stored = worded a verdict.Accepted
-taken a (Complete s) = cond (liveOf (a .motion .state)) (worded a (verdict.Refused DriveActive)) (worded (activated s a) verdict.Accepted)
+taken a o = worded a (takenOver (a .active) (a .motion) o)
 
 unfoldable pub wordOf : Axis → ℕ → Worded
 wordOf a w = taken (withPending a (readOf (a .pending) w .pending)) (readOf (a .pending) w .outcome)

@@ -1,23 +1,16 @@
 // One axis, fed by settings words and ticks.
 use answers::Answer;
-use answers::Answered;
 use motion::Motion;
-use reader::Outcome;
 use reader::Pending;
 use settings::Refusal;
 use settings::Settings;
 use settings::Verdict;
+use takeover::Active;
 use ticks::Tick;
 ghost use mathlib.Core.Path.{_≡_};
 ghost use Rattle.homing.specs.Places.{homedIn};
-ghost use Rattle.axis.specs.Word.{withPending, activated, taken, wordOf};
-ghost use Rattle.axis.specs.Tick.{gone, tickUnder, tickOf, freshAxis};
-
-// The settings in force.
-pub enum Active {
-    Nothing,
-    Set(Settings),
-}
+ghost use Rattle.axis.specs.Word.{wordOf};
+ghost use Rattle.axis.specs.Tick.{tickUnder, tickOf, freshAxis};
 
 pub struct Axis {
     pub active: Active,
@@ -48,62 +41,6 @@ impl Axis {
         }
     }
 
-    // Settings come into force (01: takeover).
-    fn activate(self, s: Settings) -> Axis
-        ensures { λ r. ⌜ r ≡ activated s self ⌝ }
-    {
-        let pending = self.pending;
-        let motion = self.motion;
-        Axis {
-            active: Active::Set(s),
-            pending: pending,
-            motion: motion.idle(),
-        }
-    }
-
-    fn pend(mut self, pending: Pending) -> Axis
-        ensures { λ r. ⌜ r ≡ withPending self pending ⌝ }
-    {
-        self.pending = pending;
-        self
-    }
-
-    // Complete settings come into force unless the drive is live.
-    fn complete(self, s: Settings) -> Worded
-        ensures { λ r. ⌜ r ≡ taken self (Outcome.Complete s) ⌝ }
-    {
-        let motion = self.motion;
-        let state = motion.state;
-        if states::is_live(state) {
-            Worded {
-                axis: self,
-                verdict: Verdict::Refused(Refusal::DriveActive),
-            }
-        } else {
-            Worded {
-                axis: self.activate(s),
-                verdict: Verdict::Accepted,
-            }
-        }
-    }
-
-    // What a word's outcome does.
-    fn take(self, outcome: Outcome) -> Worded
-        ensures { λ r. ⌜ r ≡ taken self outcome ⌝ }
-    {
-        match outcome {
-            Outcome::Refused(refusal) => Worded {
-                axis: self,
-                verdict: Verdict::Refused(refusal),
-            },
-            Outcome::Stored => Worded {
-                axis: self,
-                verdict: Verdict::Accepted,
-            },
-            Outcome::Complete(s) => self.complete(s),
-        }
-    }
-
     // One settings word.
     pub fn word(self, word: u32) -> Worded
         ensures { λ r. ⌜ r ≡ wordOf self word ⌝ }
@@ -111,14 +48,29 @@ impl Axis {
         let pending = self.pending;
         let reading = pending.read(word);
         let outcome = reading.outcome;
-        let next = self.pend(reading.pending);
-        next.take(outcome)
+        let active = self.active;
+        let motion = self.motion;
+        let taken = takeover::take(active, motion, outcome);
+        let pending = reading.pending;
+        let active = taken.active;
+        let motion = taken.motion;
+        let verdict = taken.verdict;
+        Worded {
+            axis: Axis {
+                active: active,
+                pending: pending,
+                motion: motion,
+            },
+            verdict: verdict,
+        }
     }
 
     // The axis goes on with what a tick leaves.
-    fn go_on(mut self, done: Answered) -> Ticked
-        ensures { λ r. ⌜ r ≡ gone self done ⌝ }
+    fn tick_under(mut self, s: Settings, t: Tick) -> Ticked
+        ensures { λ r. ⌜ r ≡ tickUnder (Active.Set s) self t ⌝ }
     {
+        let before = self.motion;
+        let done = answers::to_tick(before, s, t);
         let motion = done.motion;
         let answer = done.answer;
         self.motion = motion;
@@ -126,13 +78,6 @@ impl Axis {
             axis: self,
             answer: answer,
         }
-    }
-
-    fn tick_under(self, s: Settings, t: Tick) -> Ticked
-        ensures { λ r. ⌜ r ≡ tickUnder (Active.Set s) self t ⌝ }
-    {
-        let motion = self.motion;
-        self.go_on(answers::to_tick(motion, s, t))
     }
 
     // One tick; refused while no settings are in force.

@@ -24,8 +24,8 @@ use Rattle.reader.specs.Read.{readOf}
 use Rattle.roundtrip.specs.Stream.{pendingAfter, EndsIn}
 use Rattle.roundtrip.proofs.Values.{values-read}
 use Rattle.roundtrip.proofs.Completed.{completes, completed}
-use Rattle.axis.specs.declared.Active.{Active}
-use Rattle.axis.specs.declared.Active.the-variants.{Nothing, Set}
+use Rattle.takeover.specs.declared.Active.{Active}
+use Rattle.takeover.specs.declared.Active.the-variants.{Nothing, Set}
 use Rattle.demands.specs.Activation.{sameWords, lastFifteen, carried, completedBy}
 
 same-refl : (xs : List ℕ) → sameWords xs xs ≡ true

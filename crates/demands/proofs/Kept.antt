@@ -12,8 +12,8 @@ use Rattle.reader.specs.Read.{emptyPending, readOf}
 use Rattle.states.specs.States.{liveOf}
 use Rattle.roundtrip.specs.Stream.{pendingAfter}
 use Rattle.roundtrip.proofs.Completed.{from-append}
-use Rattle.axis.specs.declared.Active.{Active}
-use Rattle.axis.specs.declared.Active.the-variants.{Nothing, Set}
+use Rattle.takeover.specs.declared.Active.{Active}
+use Rattle.takeover.specs.declared.Active.the-variants.{Nothing, Set}
 use Rattle.axis.specs.declared.Axis.{Axis}
 use Rattle.ticks.specs.declared.Tick.{Tick}
 use Rattle.demands.specs.Events.{Event, word, tick}

@@ -10,8 +10,8 @@ use Rattle.homing.specs.declared.Phase.{Phase}
 use Rattle.homing.specs.declared.Phase.the-variants.{Idle}
 use Rattle.homing.specs.Places.{startOf, stepOf, stepAll}
 use Rattle.roundtrip.specs.Stream.{pendingAfter}
-use Rattle.axis.specs.declared.Active.{Active}
-use Rattle.axis.specs.declared.Active.the-variants.{Nothing, Set}
+use Rattle.takeover.specs.declared.Active.{Active}
+use Rattle.takeover.specs.declared.Active.the-variants.{Nothing, Set}
 use Rattle.axis.specs.declared.Axis.{Axis}
 use Rattle.demands.specs.Known.{Known, Since, never, start, seen}
 

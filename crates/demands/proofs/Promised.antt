@@ -19,8 +19,8 @@ use Rattle.torque.specs.Torque.{torqueOf}
 use Rattle.torque.proofs.Within.{bounded, zero-when-off}
 use Rattle.status.specs.Statusword.{statuswordOf}
 use Rattle.status.proofs.Bits.{bit-8-homed, bit-12-homed}
-use Rattle.axis.specs.declared.Active.{Active}
-use Rattle.axis.specs.declared.Active.the-variants.{Nothing, Set}
+use Rattle.takeover.specs.declared.Active.{Active}
+use Rattle.takeover.specs.declared.Active.the-variants.{Nothing, Set}
 use Rattle.axis.specs.declared.Axis.{Axis}
 use Rattle.ticks.specs.declared.Tick.{Tick}
 use Rattle.answers.specs.declared.Answer.{Answer}

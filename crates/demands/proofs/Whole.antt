@@ -29,8 +29,8 @@ use Rattle.roundtrip.specs.ReadInto.{ReadInto, last, more}
 use Rattle.roundtrip.specs.Stream.{pendingFrom}
 use Rattle.roundtrip.proofs.There.{there}
 use Rattle.roundtrip.proofs.Completed.{last-completes, snoc-inj}
-use Rattle.axis.specs.declared.Active.{Active}
-use Rattle.axis.specs.declared.Active.the-variants.{Nothing, Set}
+use Rattle.takeover.specs.declared.Active.{Active}
+use Rattle.takeover.specs.declared.Active.the-variants.{Nothing, Set}
 use Rattle.axis.specs.declared.Axis.{Axis}
 use Rattle.ticks.specs.declared.Tick.{Tick}
 use Rattle.axis.specs.declared.Worded.{Worded}

@@ -13,8 +13,8 @@ use Rattle.checks.specs.Check.{acceptable}
 use Rattle.words.specs.Word.{dataOf}
 use Rattle.words.specs.Encode.{wordsOf}
 use Rattle.words.specs.Decode.{settingsOf}
-use Rattle.axis.specs.declared.Active.{Active}
-use Rattle.axis.specs.declared.Active.the-variants.{Nothing, Set}
+use Rattle.takeover.specs.declared.Active.{Active}
+use Rattle.takeover.specs.declared.Active.the-variants.{Nothing, Set}
 
 abbrev pub sameWords : List ℕ → List ℕ → Bool
 sameWords [] [] = true

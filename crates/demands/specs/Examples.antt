@@ -40,8 +40,8 @@ use Rattle.torque.specs.Torque.{torqueOf}
 use Rattle.position.specs.Position.{placeOf}
 use Rattle.status.specs.Statusword.{statuswordOf}
 use Rattle.demands.specs.Activation.{sameWords, completedBy}
-use Rattle.axis.specs.declared.Active.{Active}
-use Rattle.axis.specs.declared.Active.the-variants.{Nothing, Set}
+use Rattle.takeover.specs.declared.Active.{Active}
+use Rattle.takeover.specs.declared.Active.the-variants.{Nothing, Set}
 use Rattle.demands.specs.Events.{Event, word, tick}
 use Rattle.demands.specs.Known.{Since, never, known}
 use Rattle.demands.specs.Known.{start as begun}

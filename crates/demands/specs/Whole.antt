@@ -16,7 +16,7 @@ use Rattle.reader.specs.declared.Pending.{Pending}
 use Rattle.reader.specs.declared.Outcome.the-variants.{Complete}
 use Rattle.reader.specs.Read.{emptyPending, readOf}
 use Rattle.states.specs.States.{liveOf}
-use Rattle.axis.specs.declared.Active.the-variants.{Nothing}
+use Rattle.takeover.specs.declared.Active.the-variants.{Nothing}
 use Rattle.axis.specs.declared.Axis.{Axis}
 use Rattle.ticks.specs.declared.Tick.{Tick}
 use Rattle.answers.specs.Answer.{refusedAnswer}

@@ -7,11 +7,8 @@ use Rattle.axis.proofs.Axis.tick_under.Tie as tie
 to-tick-requires : tie.Need-to-tick-requires
 to-tick-requires c κs = search needs
 
-go-on-requires : tie.Need-go-on-requires
-go-on-requires c κs = search needs
-
 returns : tie.Need-returns
-returns c = rw (c .go-on .ensures, c .before .to-tick .ensures)
+returns c = rw (c .before .before .to-tick .ensures)
 
 pub tick-under-spec : {M : Type 1} → statement M
-tick-under-spec = tie.close (tie.spec to-tick-requires go-on-requires returns)
+tick-under-spec = tie.close (tie.spec to-tick-requires returns)

@@ -8,15 +8,12 @@ use Rattle.axis.proofs.Axis.word.Tie as tie
 read-requires : tie.Need-read-requires
 read-requires c κs = search needs
 
-pend-requires : tie.Need-pend-requires
-pend-requires c κs = search needs
-
 take-requires : tie.Need-take-requires
 take-requires c κs = search needs
 
 returns : tie.Need-returns
 unfolding wordOf
-returns c = rw (c .take .ensures, c .before .pend .ensures, c .before .before .read .ensures)
+returns c = rw (c .before .before .take .ensures, c .before .before .before .before .read .ensures)
 
 pub word-spec : {M : Type 1} → statement M
-word-spec = tie.close (tie.spec read-requires pend-requires take-requires returns)
+word-spec = tie.close (tie.spec read-requires take-requires returns)

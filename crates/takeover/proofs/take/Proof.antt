@@ -1,8 +1,8 @@
--- `Axis::take` meets its contract.
+-- `takeover::take` meets its contract.
 -- Assumes nothing.
 use borrow.Author.Needs.{needs}
-use Rattle.axis.proofs.Axis.take.Statement.{statement}
-use Rattle.axis.proofs.Axis.take.Tie as tie
+use Rattle.takeover.proofs.take.Statement.{statement}
+use Rattle.takeover.proofs.take.Tie as tie
 
 enum-known-outcome : tie.Need-enum-known-outcome
 enum-known-outcome c = search needs
