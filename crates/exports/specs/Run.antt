@@ -5,7 +5,10 @@ use mathlib.Core.Bool.{cond}
 use mathlib.Core.List.{List, _++_}
 use lib.Dec.{eqb}
 use lib.Ieee.{Float}
+use lib.IntN.{pos}
 use lib.ListN.{length, take, drop}
+use Rattle.settings.specs.Refusal.{verdictNumber}
+use Rattle.settings.specs.declared.Verdict.{Verdict}
 use Rattle.answers.specs.declared.Answer.{Answer}
 use Rattle.axis.specs.declared.Axis.{Axis}
 use Rattle.axis.specs.declared.Ticked.{Ticked}
@@ -13,7 +16,7 @@ use Rattle.axis.specs.Tick.{freshAxis}
 use Rattle.demands.specs.Events.{Event, word, tick}
 use Rattle.demands.specs.Replies.{Reply, answered, leftBy, replyTo}
 use Rattle.demands.specs.Replies as reply
-use Rattle.records.specs.Words.{wordAt, tickIn, said, answerWords}
+use Rattle.records.specs.Words.{wordAt, tickIn, answerWords}
 
 -- seven words and seven floats as an event
 unfoldable pub eventIn : List ℕ → List Float → Event
@@ -25,6 +28,10 @@ seven l at = take 7 (drop at l)
 
 unfoldable pub eventAt : List ℕ → List Float → ℕ → Event
 eventAt ws fs at = eventIn (seven ws at) (seven fs at)
+
+-- a settings word is answered by its number
+abbrev pub said : Verdict → Answer
+said v = record { number = verdictNumber v; torque = pos 0; speed = pos 0; position = pos 0; status = 0; mode = pos 0; alarm = 0 }
 
 abbrev pub answerTo : Reply → Answer
 answerTo (reply.said v) = said v

@@ -4,13 +4,32 @@
 use answers::Answer;
 use axis::Axis;
 use axis::Ticked;
+use settings::Verdict;
 ghost use mathlib.Core.Path.{_≡_};
 ghost use Prim.Native.Nat.{_+_, _/_, _≤_, min};
 ghost use lib.ListN.{length};
 ghost use Rattle.settings.specs.Refusal.{verdictNumber};
 ghost use Rattle.writer.specs.Write.{writeVerdict, written};
 ghost use Rattle.records.specs.Words.{settingsIn, answerWords};
-ghost use Rattle.exports.specs.Run.{eventAt, fedBy, putAt, filled};
+ghost use Rattle.exports.specs.Run.{said, eventAt, fedBy, putAt, filled};
+
+// The answer to a settings word: its number.
+fn word_answer(verdict: Verdict) -> Answer
+    ensures { λ r. ⌜ r ≡ said verdict ⌝ }
+{
+    match verdict {
+        Verdict::Accepted => Answer {
+            number: 0,
+            torque: 0,
+            speed: 0,
+            position: 0,
+            status: 0,
+            mode: 0,
+            alarm: 0,
+        },
+        Verdict::Refused(refusal) => answers::refused(refusal),
+    }
+}
 
 // One event: a settings word or a tick.
 fn feed(axis: Axis, words: &[u32], floats: &[f32], at: usize) -> Ticked
@@ -26,7 +45,7 @@ fn feed(axis: Axis, words: &[u32], floats: &[f32], at: usize) -> Ticked
         let verdict = worded.verdict;
         Ticked {
             axis: next,
-            answer: records::word_answer(verdict),
+            answer: word_answer(verdict),
         }
     } else {
         axis.tick(records::tick(e, f))
@@ -82,6 +101,6 @@ pub extern "C" fn axis_write(fields: &[u32; 15], buffer: &mut [u32]) -> u32
 {
     let s = records::settings_in(fields);
     let verdict = writer::write(s, buffer);
-    let told = records::word_answer(verdict);
+    let told = word_answer(verdict);
     told.number
 }

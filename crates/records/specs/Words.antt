@@ -14,8 +14,6 @@ use Rattle.counts.specs.Bit.{bitOf}
 use Rattle.counts.specs.Clamp.{clamped}
 use Rattle.counts.specs.Wrap.{modulo, wrapped}
 use Rattle.settings.specs.declared.Settings.{Settings}
-use Rattle.settings.specs.declared.Verdict.{Verdict}
-use Rattle.settings.specs.Refusal.{verdictNumber}
 use Rattle.hybrid.specs.declared.Hybrid.{Hybrid}
 use Rattle.commands.specs.declared.Command.{Command}
 use Rattle.commands.specs.declared.Command.the-variants as command
@@ -81,10 +79,6 @@ tickIn e f =
       set = setOf (bitOf (halfAt e 3) 5);
       alarm = wordAt e 4;
     }
-
--- a settings word is answered by its number
-abbrev pub said : Verdict → Answer
-said v = record { number = verdictNumber v; torque = pos 0; speed = pos 0; position = pos 0; status = 0; mode = pos 0; alarm = 0 }
 
 -- an answer's number, torque, speed, position, statusword, mode and alarm number
 unfoldable pub answerWords : Answer → List ℕ

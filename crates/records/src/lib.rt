@@ -6,12 +6,11 @@ use commands::Command;
 use hybrid::Hybrid;
 use legs::events::Switches;
 use settings::Settings;
-use settings::Verdict;
 use ticks::Tick;
 use torque::LimitSet;
 ghost use mathlib.Core.Path.{_≡_};
 ghost use Rattle.counts.specs.Wrap.{modulo};
-ghost use Rattle.records.specs.Words.{wordAt, floatAt, signedAt, halfAt, requestAt, gainsIn, switchesIn, setOf, commandIn, tickIn, settingsIn, said, answerWords};
+ghost use Rattle.records.specs.Words.{wordAt, floatAt, signedAt, halfAt, requestAt, gainsIn, switchesIn, setOf, commandIn, tickIn, settingsIn, answerWords};
 
 // A word; 0 past the last.
 fn word(words: &[u32], at: usize) -> u32
@@ -120,24 +119,6 @@ pub fn tick(e: &[u32], f: &[f32]) -> Tick
         still: counts::bit(inputs, 4),
         set,
         alarm: word(e, 4),
-    }
-}
-
-// The answer to a settings word: its number.
-pub fn word_answer(verdict: Verdict) -> Answer
-    ensures { λ r. ⌜ r ≡ said verdict ⌝ }
-{
-    match verdict {
-        Verdict::Accepted => Answer {
-            number: 0,
-            torque: 0,
-            speed: 0,
-            position: 0,
-            status: 0,
-            mode: 0,
-            alarm: 0,
-        },
-        Verdict::Refused(refusal) => answers::refused(refusal),
     }
 }
 

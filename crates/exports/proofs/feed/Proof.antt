@@ -16,8 +16,8 @@ use Rattle.axis.specs.declared.Worded.{Worded}
 use Rattle.axis.specs.declared.Ticked.{Ticked}
 use Rattle.axis.specs.Word.{wordOf}
 use Rattle.axis.specs.Tick.{tickOf}
-use Rattle.records.specs.Words.{tickIn, said}
-use Rattle.exports.specs.Run.{eventIn, fedBy}
+use Rattle.records.specs.Words.{tickIn}
+use Rattle.exports.specs.Run.{said, eventIn, fedBy}
 use Rattle.exports.proofs.Sevens.{has-first, has-second, parts}
 use Rattle.exports.proofs.feed.Statement.{statement}
 use Rattle.exports.proofs.feed.Tie as tie

@@ -1,8 +1,8 @@
--- `records::word_answer` meets its contract.
+-- `exports::word_answer` meets its contract.
 -- Assumes nothing.
 use borrow.Author.Needs.{needs}
-use Rattle.records.proofs.word_answer.Statement.{statement}
-use Rattle.records.proofs.word_answer.Tie as tie
+use Rattle.exports.proofs.word_answer.Statement.{statement}
+use Rattle.exports.proofs.word_answer.Tie as tie
 
 enum-told : tie.Need-enum-told
 enum-told c = search needs
