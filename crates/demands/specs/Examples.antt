@@ -21,7 +21,7 @@ use Rattle.settings.specs.Ranges.{inRange}
 use Rattle.checks.specs.Check.{acceptable}
 use Rattle.words.specs.Encode.{valuesOf, total, checksumOf, wordsFrom, wordsOf}
 use Rattle.words.specs.Decode.{settingsOf}
-use Rattle.reader.specs.Fields.{fieldOk}
+use Rattle.kinds.specs.Fields.{fieldOk}
 use Rattle.reader.specs.Read.{startOf, fieldOf, endOf, readOf}
 use Rattle.roundtrip.specs.Examples.{words-S}
 use Rattle.control.specs.Control.{controlCommandOf}

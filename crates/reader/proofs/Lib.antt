@@ -1,4 +1,3 @@
-pub mod Match
 pub mod Steps
 pub mod Numbers
 pub mod Accepted

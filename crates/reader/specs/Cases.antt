@@ -9,7 +9,7 @@ use Rattle.words.specs.Word.{kindOf, dataOf}
 use Rattle.words.specs.Encode.{checksumOf}
 use Rattle.words.specs.Decode.{settingsOf}
 use Rattle.reader.specs.declared.Pending.{Pending}
-use Rattle.reader.specs.Fields.{fieldOk}
+use Rattle.kinds.specs.Fields.{fieldOk}
 use Rattle.reader.specs.Read.{dueKind}
 
 abbrev pub isStart : ℕ → Bool

@@ -18,7 +18,7 @@ use Rattle.reader.specs.declared.Outcome.{Outcome}
 use Rattle.reader.specs.declared.Outcome.the-variants.{Refused, Stored, Complete}
 use Rattle.reader.specs.declared.Reading.{Reading}
 use Rattle.words.specs.Word.{kindOf, dataOf}
-use Rattle.reader.specs.Fields.{fieldOk}
+use Rattle.kinds.specs.Fields.{fieldOk}
 use Rattle.words.specs.Decode.{settingsOf}
 use Rattle.words.specs.Encode.{checksumOf}
 

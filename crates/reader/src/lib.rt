@@ -7,7 +7,6 @@ use words::decoder;
 ghost use mathlib.Core.Path.{_≡_};
 ghost use Prim.Native.Nat.{_<_};
 ghost use Rattle.checks.specs.Check.{limitsVerdict};
-ghost use Rattle.reader.specs.Fields.{torqueLimitsOk, fieldOk};
 ghost use Rattle.reader.specs.Read.{emptyPending, dueKind, refused, startOf, fieldOf, judged, endOf, readOf};
 
 // The words that have come since the last start word: how many, and the data of each in order, 0 where none has come yet.
@@ -37,34 +36,6 @@ fn due_kind(count: u32) -> u32
     if count < 14 { count } else { 15 }
 }
 
-fn torque_limits_ok(value: u32) -> bool
-    ensures { λ r. ⌜ r ≡ torqueLimitsOk value ⌝ }
-{
-    ranges::torque_ok(value % 16384) & ranges::torque_ok(value / 16384)
-}
-
-fn field_ok(kind: u32, value: u32) -> bool
-    ensures { λ r. ⌜ r ≡ fieldOk kind value ⌝ }
-{
-    match kind {
-        0 => value == 1,
-        1 => ranges::method_ok(value),
-        2 => ranges::speed_ok(value),
-        3 => ranges::speed_ok(value),
-        4 => true,
-        5 => ranges::ratio_ok(value),
-        6 => ranges::ratio_ok(value),
-        7 => true,
-        8 => true,
-        9 => ranges::torque_ok(value),
-        10 => torque_limits_ok(value),
-        11 => torque_limits_ok(value),
-        12 => ranges::option_ok(value),
-        13 => ranges::rated_ok(value),
-        _ => false,
-    }
-}
-
 impl Pending {
     pub fn empty() -> Pending
         ensures { λ r. ⌜ r ≡ emptyPending ⌝ }
@@ -91,7 +62,7 @@ impl Pending {
     fn start(self, value: u32) -> Reading
         ensures { λ r. ⌜ r ≡ startOf value ⌝ }
     {
-        if field_ok(0, value) {
+        if kinds::field_ok(0, value) {
             Reading {
                 outcome: Outcome::Stored,
                 pending: Pending {
@@ -109,7 +80,7 @@ impl Pending {
         requires { ⌜ kind < 14 ⌝ }
         ensures { λ r. ⌜ r ≡ fieldOf self kind value ⌝ }
     {
-        if field_ok(kind, value) {
+        if kinds::field_ok(kind, value) {
             let i = kind as usize;
             let mut next = self;
             next.values[i] = value;

@@ -22,7 +22,7 @@ use Rattle.reader.specs.declared.Pending.{Pending}
 use Rattle.reader.specs.declared.Reading.{Reading}
 use Rattle.reader.specs.declared.Outcome.{Outcome}
 use Rattle.reader.specs.declared.Outcome.the-variants.{Refused, Stored, Complete}
-use Rattle.reader.specs.Fields.{fieldOk}
+use Rattle.kinds.specs.Fields.{fieldOk}
 use Rattle.reader.specs.Read.{emptyPending, dueKind, refused, stored, complete, started, kept, readOf}
 use Rattle.reader.proofs.Accepted.{ReadBy, refuses, accepted, begins, keeps, closes, read-by}
 use Rattle.roundtrip.specs.ReadInto.{ReadInto, last, more}

@@ -18,7 +18,7 @@ use Rattle.words.proofs.Widths.{Below, values-below}
 use Rattle.reader.specs.declared.Pending.{Pending}
 use Rattle.reader.specs.declared.Reading.{Reading}
 use Rattle.reader.specs.declared.Outcome.the-variants.{Complete}
-use Rattle.reader.specs.Fields.{fieldOk}
+use Rattle.kinds.specs.Fields.{fieldOk}
 use Rattle.reader.specs.Read.{dueKind, stored, complete, started, kept, startOf, fieldOf, judged, endOf, readOf, outcomeNumber}
 use Rattle.reader.proofs.Steps.{read-start, read-end, read-field}
 use Rattle.roundtrip.specs.ReadInto.{ReadInto, last, more}

@@ -13,7 +13,7 @@ use Rattle.words.specs.Encode.{valuesOf}
 use Rattle.words.specs.Decode.{settingsOf}
 use Rattle.words.proofs.Bits.{modulo-signed, signed-ok, set-both}
 use Rattle.words.proofs.Widths.{Below}
-use Rattle.reader.specs.Fields.{fieldOk}
+use Rattle.kinds.specs.Fields.{fieldOk}
 use Rattle.roundtrip.proofs.Values.{InFields}
 
 module _ (m f l o n d a b t g h c r : ℕ) where

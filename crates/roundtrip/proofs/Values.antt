@@ -9,7 +9,7 @@ use Rattle.settings.specs.Ranges.{inRange}
 use Rattle.settings.proofs.Within.{within}
 use Rattle.words.specs.Encode.{valuesOf}
 use Rattle.words.proofs.Bits.{signed-modulo, set-low, set-high}
-use Rattle.reader.specs.Fields.{fieldOk}
+use Rattle.kinds.specs.Fields.{fieldOk}
 use Rattle.words.specs.Decode.{settingsOf}
 
 -- each is in the field of its kind, the first one's being k

@@ -1,14 +1,14 @@
--- `reader::field_ok` meets its contract: each arm settles its place in the table.
+-- `kinds::field_ok` meets its contract: each arm settles its place in the table.
 -- Assumes nothing.
 use Prim.Native.Nat.{ℕ, _≤_}
 use mathlib.Core.Path.{_≡_, ap, sym}
 use mathlib.Core.Bool.{Bool, false}
 use lib.ListN.{List·getD-eq-default}
-use Rattle.reader.proofs.Match.{Avoids, avoided}
-use Rattle.reader.specs.Fields.{fields, fieldOk}
+use Rattle.kinds.proofs.Match.{Avoids, avoided}
+use Rattle.kinds.specs.Fields.{fields, fieldOk}
 use borrow.Author.Needs.{needs}
-use Rattle.reader.proofs.field_ok.Statement.{statement}
-use Rattle.reader.proofs.field_ok.Tie as tie
+use Rattle.kinds.proofs.field_ok.Statement.{statement}
+use Rattle.kinds.proofs.field_ok.Tie as tie
 
 method-ok-requires : tie.Need-method-ok-requires
 method-ok-requires c κs = search needs

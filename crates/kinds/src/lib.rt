@@ -1,0 +1,31 @@
+// What data each kind of settings word may carry.
+ghost use mathlib.Core.Path.{_≡_};
+ghost use Rattle.kinds.specs.Fields.{torqueLimitsOk, fieldOk};
+
+fn torque_limits_ok(value: u32) -> bool
+    ensures { λ r. ⌜ r ≡ torqueLimitsOk value ⌝ }
+{
+    ranges::torque_ok(value % 16384) & ranges::torque_ok(value / 16384)
+}
+
+pub fn field_ok(kind: u32, value: u32) -> bool
+    ensures { λ r. ⌜ r ≡ fieldOk kind value ⌝ }
+{
+    match kind {
+        0 => value == 1,
+        1 => ranges::method_ok(value),
+        2 => ranges::speed_ok(value),
+        3 => ranges::speed_ok(value),
+        4 => true,
+        5 => ranges::ratio_ok(value),
+        6 => ranges::ratio_ok(value),
+        7 => true,
+        8 => true,
+        9 => ranges::torque_ok(value),
+        10 => torque_limits_ok(value),
+        11 => torque_limits_ok(value),
+        12 => ranges::option_ok(value),
+        13 => ranges::rated_ok(value),
+        _ => false,
+    }
+}
