@@ -1,4 +1,4 @@
-//! Events and answers as plain words: the layout of `crates/exports/specs/Words.antt`, for both sides.
+//! Events and answers as plain words: the layout of `crates/records/specs/Words.antt`, for both sides.
 
 use crate::baseline::{self, Answer, Axis, Command, Gains, Settings, Tick};
 

@@ -33,17 +33,20 @@ unfolding axisAt filled
 loop-holds c = (omega arith, c .fresh .ensures, refl, refl)
 
 -- event i is within all three lists
-fits : (c : tie.In-loop Inv-loop μ-loop) → (c .before .loop .i * 7 + 7 ≤ length (c .before .before .before .before .before .before .before .args .words .now)) × (c .before .loop .i * 7 + 7 ≤ length (c .before .before .before .before .before .before .before .args .floats .now)) × (c .before .loop .i * 7 + 7 ≤ length (c .before .before .before .before .before .before .before .args .answers .now))
+fits : (c : tie.In-loop Inv-loop μ-loop) →
+    let a = c .before .before .before .before .before .before .before .args in
+    let end = c .before .loop .i * 7 + 7 in
+    (end ≤ length (a .words .now)) × (end ≤ length (a .floats .now)) × (end ≤ length (a .answers .now))
 fits c = in-each (c .loop-test .taken) (c .before .before .before .room .ensures)
 
 mul-at : tie.Need-mul-at Inv-loop μ-loop
 mul-at c = let r = fits c in omega arith
 
 feed-requires : tie.Need-feed-requires Inv-loop μ-loop
-feed-requires c κs = let r = fits c in (r .0, r .1)
+feed-requires c κs = let r = fits c in (omega arith, omega arith)
 
 put-requires : tie.Need-put-requires Inv-loop μ-loop
-put-requires c κs = let i = c .before .before .before in rw (i .before .loop .inv .3) (fits i .2)
+put-requires c κs = let i = c .before .before .before in omega (arith, fits i .2, i .before .loop .inv .3)
 
 add-i : tie.Need-add-i Inv-loop μ-loop
 add-i c = omega arith
