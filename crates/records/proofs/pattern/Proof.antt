@@ -1,6 +1,5 @@
 -- `records::pattern` meets its contract.
 -- Assumes nothing.
-use Prim.Native.Nat.{_^_}
 use native.Mathlib.Omega.{arith}
 use mir.Syntax.{w64}
 use mir.ValLaws.{toZ-pos}
