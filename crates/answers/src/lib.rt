@@ -116,7 +116,7 @@ fn given(s: Settings, t: Tick, m: Moment) -> Answer
 pub fn to_tick(motion: Motion, s: Settings, t: Tick) -> Answered
     ensures { λ r. ⌜ r ≡ answeredIn s motion t ⌝ }
 {
-    let m = ticks::reached(motion, s, t);
+    let m = ticks::moment_of(motion, s, t);
     let next = m.motion;
     Answered {
         motion: next,

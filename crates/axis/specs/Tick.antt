@@ -1,6 +1,5 @@
 -- 01, "A tick": what it comes to, its answer, and what the axis keeps of it.
 -- Assumes nothing.
-use Rattle.settings.specs.declared.Settings.{Settings}
 use Rattle.settings.specs.declared.Refusal.the-variants.{NoSettings}
 use Rattle.reader.specs.Read.{emptyPending}
 use Rattle.motion.specs.Motion.{freshMotion}

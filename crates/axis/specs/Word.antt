@@ -1,12 +1,9 @@
 -- 01, "The sheet": what a settings word does to an axis.
 -- Assumes nothing.
 use Prim.Native.Nat.{ℕ}
-use Rattle.settings.specs.declared.Settings.{Settings}
 use Rattle.reader.specs.declared.Pending.{Pending}
 use Rattle.reader.specs.declared.Outcome.{Outcome}
 use Rattle.reader.specs.Read.{readOf}
-use Rattle.motion.specs.Motion.{idled}
-use Rattle.takeover.specs.declared.Active.the-variants.{Set}
 use Rattle.takeover.specs.declared.Taken.{Taken}
 use Rattle.takeover.specs.Takeover.{takenOver}
 use Rattle.axis.specs.declared.Axis.{Axis}
@@ -19,15 +16,6 @@ withPending a p =
       active = a .active;
       pending = p;
       motion = a .motion;
-    }
-
--- "all its fields come into force together, homed and homing error are cleared, homing is idle"
-abbrev pub activated : Settings → Axis → Axis
-activated s a =
-    record {
-      active = Set s;
-      pending = a .pending;
-      motion = idled (a .motion);
     }
 
 -- the axis with what a word leaves in force, and the word's verdict

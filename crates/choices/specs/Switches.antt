@@ -6,6 +6,7 @@ use mathlib.Core.List.{List}
 use lib.Dec.{eqb}
 use lib.ListN.{length, getD}
 use Rattle.legs.specs.declared.events.Switches.{Switches}
+use Rattle.legs.specs.Events.{allOff}
 use Rattle.choices.specs.declared.Shown.{Shown}
 
 -- a switch's byte is its letter or `-`
@@ -20,8 +21,5 @@ abbrev pub fourOf : List ℕ → Switches
 fourOf bs =
     record { positive = eqb (getD bs 0 0) 80; negative = eqb (getD bs 1 0) 78; home = eqb (getD bs 2 0) 72; index = eqb (getD bs 3 0) 90 }
 
-abbrev pub noneOf : Switches
-noneOf = record { positive = false; negative = false; home = false; index = false }
-
 abbrev pub shownOf : List ℕ → Shown
-shownOf bs = cond (eqb (length bs) 4) (record { accepted = fourOk bs; switches = fourOf bs }) (record { accepted = false; switches = noneOf })
+shownOf bs = cond (eqb (length bs) 4) (record { accepted = fourOk bs; switches = fourOf bs }) (record { accepted = false; switches = allOff })

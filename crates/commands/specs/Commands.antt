@@ -1,7 +1,7 @@
 -- 01, "A tick": "Each tick carries one command: hybrid, homing, position, torque or rest."
 -- Assumes nothing.
 use Prim.Native.Nat.{ℕ, _+_, _^_}
-use mathlib.Core.Bool.{Bool, cond}
+use mathlib.Core.Bool.{cond}
 use lib.Dec.{ltb}
 use lib.IntN.{ℤ, pos}
 use Rattle.hybrid.specs.Hybrid.{quotientOf, finite, wholeOf}

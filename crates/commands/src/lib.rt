@@ -48,8 +48,8 @@ pub fn torque_demand(command: Command, rated: u32) -> Demand
 fn raised(alarm: u32) -> u32
     ensures { λ r. ⌜ r ≡ withBit31 alarm ⌝ }
 {
-    if alarm < 2147483648 {
-        alarm + 2147483648
+    if alarm < 0x80000000 {
+        alarm + 0x80000000
     } else {
         alarm
     }

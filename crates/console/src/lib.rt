@@ -3,8 +3,9 @@ use gather::Ended;
 use gather::Held;
 use libc::STDIN_FILENO;
 use libc::STDOUT_FILENO;
+use session::Answered;
 use session::Session;
-ghost use Prim.Native.Nat.{_<_};
+ghost use Prim.Native.Nat.{_<_, _≤_};
 ghost use lib.ListN.{length};
 
 // A session, and the line that has not ended yet.
@@ -32,23 +33,23 @@ fn nothing_held() -> Held {
     }
 }
 
+// What a line that has ended is answered, on the page.
+fn reply(session: Session, line: &[u8], held: Held, out: &mut [u8]) -> Answered
+    ensures { λ r. ⌜ r .length ≤ length (now (out .exit)) ⌝ }
+{
+    match gather::end(line, held) {
+        Ended::Text(n) => session.line(&line[..n], out),
+        Ended::TooLong => session.long_line(out),
+    }
+}
+
 // Answers a line that has ended.
 fn answer(session: Session, line: &[u8], held: Held) -> Session {
     let mut out = [0u8; 512];
-    match gather::end(line, held) {
-        Ended::Text(n) => {
-            let answered = session.line(&line[..n], &mut out);
-            let written = answered.length;
-            io::write_all(STDOUT_FILENO, &out[..written]);
-            answered.session
-        }
-        Ended::TooLong => {
-            let answered = session.long_line(&mut out);
-            let written = answered.length;
-            io::write_all(STDOUT_FILENO, &out[..written]);
-            answered.session
-        }
-    }
+    let answered = reply(session, line, held, &mut out);
+    let written = answered.length;
+    io::write_all(STDOUT_FILENO, &out[..written]);
+    answered.session
 }
 
 // Takes the chunk's bytes up to the next line's end, and answers that line.

@@ -2,7 +2,7 @@
 //
 // Counts are signed 32-bit and wrap around. Every function answers every value of its arguments.
 ghost use mathlib.Core.Path.{_≡_};
-ghost use Prim.Native.Nat.{_≤_, max};
+ghost use Prim.Native.Nat.{max};
 ghost use lib.IntN.{_+ℤ_, _-ℤ_};
 ghost use Rattle.counts.specs.Wrap.{wrapped};
 ghost use Rattle.counts.specs.Movement.{movementOf};

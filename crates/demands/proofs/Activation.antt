@@ -1,19 +1,19 @@
 -- The settings that words complete, read off their last fifteen, are those that the reader hands out at the last of them.
 -- Assumes nothing.
-use Prim.Native.Nat.{ℕ, suc, _+_, _-_, _*_, _%_, _^_, _<_, _≤_}
+use Prim.Native.Nat.{ℕ, _+_, _-_, _*_, _%_, _^_}
 use mathlib.Core.Path.{_≡_, refl, sym, ap, _∙_}
 use mathlib.Core.Bool.{Bool, true, false, cond, _&&_, false≢true}
 use mathlib.Core.List.{List, [], _∷_, _++_, map}
 use native.Mathlib.Omega.{arith}
 use borrow.Author.Tests.{eq-eqb, eqb-true}
 use lib.Dec.{eqb}
-use lib.ListN.{length, take, drop, length-append, take-append-drop}
+use lib.ListN.{length, take, length-append, take-append-drop}
 use lib.Seq.{take-at, drop-at}
 use Rattle.settings.specs.declared.Settings.{Settings}
 use Rattle.checks.specs.Check.{acceptable}
 use Rattle.checks.proofs.Numbers.{passes}
 use Rattle.settings.proofs.Within.{both}
-use Rattle.words.specs.Word.{dataOf, wordOf}
+use Rattle.words.specs.Word.{dataOf, wordOf, sameWords}
 use Rattle.words.specs.Encode.{valuesOf, checksumOf, wordsFrom, wordsOf}
 use Rattle.words.specs.Decode.{settingsOf}
 use Rattle.words.proofs.Words.{length-words, length-sealed}
@@ -26,7 +26,7 @@ use Rattle.roundtrip.proofs.Values.{values-read}
 use Rattle.roundtrip.proofs.Completed.{completes, completed}
 use Rattle.takeover.specs.declared.Active.{Active}
 use Rattle.takeover.specs.declared.Active.the-variants.{Nothing, Set}
-use Rattle.demands.specs.Activation.{sameWords, lastFifteen, carried, completedBy}
+use Rattle.demands.specs.Activation.{lastFifteen, carried, completedBy}
 
 same-refl : (xs : List ℕ) → sameWords xs xs ≡ true
 same-refl [] = refl

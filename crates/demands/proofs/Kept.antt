@@ -24,7 +24,7 @@ use Rattle.answers.specs.Answer.{answeredIn}
 use Rattle.axis.specs.Tick.{gone, tickUnder, tickOf, freshAxis}
 use Rattle.demands.specs.Replies.{leftBy, axisFrom, axisOf}
 use Rattle.demands.specs.Activation.{completedBy}
-use Rattle.demands.specs.Known.{Known, Since, never, atFirst, activates, afterWord, sinceAfter, afterTick, next, knownFrom, known}
+use Rattle.demands.specs.Known.{Known, atFirst, activates, afterWord, sinceAfter, afterTick, next, knownFrom, known}
 use Rattle.demands.proofs.Activation.{completedIn, activation}
 use Rattle.demands.proofs.Matches.{phaseFor, Matches, phase-step}
 

@@ -1,10 +1,9 @@
 -- Demand 3 holds of every list of events: the invariant gives the axis at each place, and the rules' own laws do the rest.
 -- Assumes nothing.
 use mathlib.Core.Path.{_≡_, refl, sym, ap, _∙_, subst}
-use mathlib.Core.Bool.{Bool, true, false, So, _&&_, false≢true}
+use mathlib.Core.Bool.{Bool, true, false, false≢true}
 use mathlib.Core.List.{List, [], _∷_, _++_}
 use mathlib.Core.Logic.{_↔_}
-use lib.IntN.{pos}
 use Rattle.counts.specs.Bit.{bitOf}
 use Rattle.settings.specs.declared.Settings.{Settings}
 use Rattle.states.specs.States.{liveOf}
@@ -12,10 +11,8 @@ use Rattle.modes.specs.declared.Mode.{Mode}
 use Rattle.modes.specs.declared.Mode.the-variants.{None, Hybrid, Homing, Position, Torque}
 use Rattle.modes.specs.Modes.{isMode}
 use Rattle.commands.specs.Commands.{wholeDemand}
-use Rattle.homing.specs.declared.Phase.{Phase}
 use Rattle.homing.specs.Places.{homedIn}
 use Rattle.homing.proofs.Simulation.{homing-iff}
-use Rattle.torque.specs.Torque.{torqueOf}
 use Rattle.torque.proofs.Within.{bounded, zero-when-off}
 use Rattle.status.specs.Statusword.{statuswordOf}
 use Rattle.status.proofs.Bits.{bit-8-homed, bit-12-homed}
@@ -23,15 +20,14 @@ use Rattle.takeover.specs.declared.Active.{Active}
 use Rattle.takeover.specs.declared.Active.the-variants.{Nothing, Set}
 use Rattle.axis.specs.declared.Axis.{Axis}
 use Rattle.ticks.specs.declared.Tick.{Tick}
-use Rattle.answers.specs.declared.Answer.{Answer}
 use Rattle.demands.specs.Events.{Event, tick}
-use Rattle.ticks.specs.Rules.{matchedIn, demandIn}
+use Rattle.ticks.specs.Rules.{demandIn}
 use Rattle.ticks.specs.Moment.{newMode, newState, newPhase, momentOf}
 use Rattle.answers.specs.Answer.{flagsOf, torqueOn, answerIn, answeredIn}
 use Rattle.axis.specs.Tick.{gone, tickUnder, tickOf, freshAxis}
-use Rattle.demands.specs.Replies.{Reply, answered, leftBy, axisFrom, repliesFrom, axisOf, replies}
+use Rattle.demands.specs.Replies.{leftBy, axisFrom, repliesFrom, axisOf, replies}
 use Rattle.demands.specs.Known.{Known, Since, never, start, afterTick, next, known, CompletesSince, RouteCompleted}
-use Rattle.demands.specs.Demand.{Judged, TickPromise, At, Demand3}
+use Rattle.demands.specs.Demand.{Judged, TickPromise, Demand3}
 use Rattle.demands.proofs.Matches.{phaseFor, Matches}
 use Rattle.demands.proofs.Kept.{keep-under, matches}
 

@@ -1,21 +1,18 @@
 -- Demands 1 and 2 over a whole axis. A tick neither reads nor writes the pending settings; a word that is not stored leaves none.
 -- Assumes nothing.
-use Prim.Native.Nat.{ℕ, _+_, _*_, _/_, _%_, _^_, _<_, _≤_}
+use Prim.Native.Nat.{ℕ, _+_, _≤_}
 use mathlib.Core.Path.{_≡_, refl, sym, ap, _∙_, subst}
-use mathlib.Core.Bool.{Bool, true, false, cond}
-use mathlib.Core.List.{List, [], _∷_, _++_, map, nil≢cons, head-eq-of-cons-eq, tail-eq-of-cons-eq}
+use mathlib.Core.Bool.{Bool, true, false}
+use mathlib.Core.List.{List, [], _∷_, _++_, nil≢cons, head-eq-of-cons-eq, tail-eq-of-cons-eq}
 use native.Mathlib.Omega.{arith}
 use lib.ListN.{length}
 use Rattle.settings.specs.declared.Settings.{Settings}
-use Rattle.settings.specs.declared.Refusal.{Refusal}
 use Rattle.settings.specs.declared.Refusal.the-variants.{DriveActive}
 use Rattle.settings.specs.declared.Verdict.the-variants as verdict
 use Rattle.settings.specs.Refusal.{numberOf}
-use Rattle.checks.specs.Check.{acceptable}
 use Rattle.checks.proofs.Numbers.{passes}
 use Rattle.words.specs.Word.{kindOf, wordOf as wordBy}
 use Rattle.words.specs.Encode.{valuesOf, checksumOf, wordsFrom, wordsOf}
-use Rattle.words.proofs.Words.{length-words}
 use Rattle.words.proofs.Widths.{Below, values-below}
 use Rattle.reader.specs.declared.Pending.{Pending}
 use Rattle.reader.specs.declared.Reading.{Reading}
@@ -34,12 +31,12 @@ use Rattle.takeover.specs.declared.Active.the-variants.{Nothing, Set}
 use Rattle.axis.specs.declared.Axis.{Axis}
 use Rattle.ticks.specs.declared.Tick.{Tick}
 use Rattle.axis.specs.declared.Worded.{Worded}
-use Rattle.axis.specs.Word.{withPending, activated, taken, wordOf}
+use Rattle.axis.specs.Word.{withPending, taken, wordOf}
 use Rattle.axis.specs.Tick.{tickUnder, tickOf}
 use Rattle.answers.specs.Answer.{answerIn, answeredIn}
 use Rattle.demands.specs.Events.{Event, word, tick}
-use Rattle.demands.specs.Replies.{Reply, said, answered, leftBy, axisFrom, repliesFrom}
-use Rattle.demands.specs.Whole.{Unseen, RefusedWord, RefusedWords, RefusedTick, RefusedTicks, wordsIn, AllAccepted, Activates, RoundTrip, EndsLive, Given7, Given8}
+use Rattle.demands.specs.Replies.{leftBy, axisFrom, repliesFrom}
+use Rattle.demands.specs.Whole.{Unseen, RefusedWords, RefusedTick, RefusedTicks, wordsIn, AllAccepted, activated, RoundTrip, EndsLive, Given7, Given8}
 
 -- ---- a refused word
 

@@ -4,23 +4,16 @@
 -- `Known.antt`, `activates`.
 -- Assumes nothing.
 use Prim.Native.Nat.{ℕ, _-_}
-use mathlib.Core.Bool.{Bool, true, false, cond, _&&_}
-use mathlib.Core.List.{List, [], _∷_, map}
-use lib.Dec.{eqb}
+use mathlib.Core.Bool.{cond, _&&_}
+use mathlib.Core.List.{List, map}
 use lib.ListN.{length, take, drop}
 use Rattle.settings.specs.declared.Settings.{Settings}
 use Rattle.checks.specs.Check.{acceptable}
-use Rattle.words.specs.Word.{dataOf}
+use Rattle.words.specs.Word.{dataOf, sameWords}
 use Rattle.words.specs.Encode.{wordsOf}
 use Rattle.words.specs.Decode.{settingsOf}
 use Rattle.takeover.specs.declared.Active.{Active}
 use Rattle.takeover.specs.declared.Active.the-variants.{Nothing, Set}
-
-abbrev pub sameWords : List ℕ → List ℕ → Bool
-sameWords [] [] = true
-sameWords [] (y ∷ ys) = false
-sameWords (x ∷ xs) [] = false
-sameWords (x ∷ xs) (y ∷ ys) = eqb x y && sameWords xs ys
 
 abbrev pub lastFifteen : List ℕ → List ℕ
 lastFifteen ws = drop (length ws - 15) ws

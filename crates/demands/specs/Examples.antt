@@ -19,6 +19,7 @@ use Rattle.checks.specs.Check.{limitsVerdict}
 use Rattle.settings.specs.Refusal.{verdictNumber}
 use Rattle.settings.specs.Ranges.{inRange}
 use Rattle.checks.specs.Check.{acceptable}
+use Rattle.words.specs.Word.{sameWords}
 use Rattle.words.specs.Encode.{valuesOf, total, checksumOf, wordsFrom, wordsOf}
 use Rattle.words.specs.Decode.{settingsOf}
 use Rattle.kinds.specs.Fields.{fieldOk}
@@ -30,7 +31,7 @@ use Rattle.hybrid.specs.Hybrid.{quotientOf, sizeOf, negative, wholeOf}
 use Rattle.commands.specs.declared.Command.{Command}
 use Rattle.commands.specs.declared.Command.the-variants.{Hybrid, Homing, Position, Torque, Rest}
 use Rattle.legs.specs.declared.events.Switches.{Switches}
-use Rattle.legs.specs.Events.{eventCounts, limitCounts}
+use Rattle.legs.specs.Events.{allOff, eventCounts, limitCounts}
 use Rattle.legs.specs.Routes.{rowOf}
 use Rattle.legs.specs.Places.{legAt}
 use Rattle.homing.specs.Places as places
@@ -39,7 +40,7 @@ use Rattle.torque.specs.Limits.{capOf}
 use Rattle.torque.specs.Torque.{torqueOf}
 use Rattle.position.specs.Position.{placeOf}
 use Rattle.status.specs.Statusword.{statuswordOf}
-use Rattle.demands.specs.Activation.{sameWords, completedBy}
+use Rattle.demands.specs.Activation.{completedBy}
 use Rattle.takeover.specs.declared.Active.{Active}
 use Rattle.takeover.specs.declared.Active.the-variants.{Nothing, Set}
 use Rattle.demands.specs.Events.{Event, word, tick}
@@ -62,7 +63,7 @@ S-with method rated =
     ∷ (take 11 (drop 2 words-S) ++ ((0xD0000000 + rated) ∷ (0xF0E15A44 + method + rated) ∷ []))
 
 abbrev off : Switches
-off = record { positive = false; negative = false; home = false; index = false }
+off = allOff
 
 abbrev HOM : Switches
 HOM = record { positive = false; negative = false; home = true; index = false }

@@ -3,10 +3,9 @@
 -- homing phase stand in it. A refused tick is left out of every reading.
 -- Assumes nothing.
 use Prim.Native.Nat.{ℕ}
-use mathlib.Core.Bool.{Bool, true, false, cond}
+use mathlib.Core.Bool.{Bool, cond}
 use mathlib.Core.List.{List, [], _∷_, _++_}
 use lib.IntN.{ℤ, pos}
-use Rattle.settings.specs.declared.Settings.{Settings}
 use Rattle.states.specs.declared.State.{State}
 use Rattle.states.specs.declared.State.the-variants.{NotReady}
 use Rattle.states.specs.States.{liveOf}
@@ -14,6 +13,7 @@ use Rattle.modes.specs.declared.Mode.{Mode}
 use Rattle.modes.specs.declared.Mode.the-variants.{None}
 use Rattle.legs.specs.declared.events.Switches.{Switches}
 use Rattle.legs.specs.declared.events.View.{View}
+use Rattle.legs.specs.Events.{allOff}
 use Rattle.legs.specs.Routes.{planOf}
 use Rattle.homing.specs.Complete.{CompletesPlan}
 use Rattle.takeover.specs.declared.Active.{Active}
@@ -42,9 +42,6 @@ pub record Known : Type 0 where
   pub position : ℤ
   pub since : Since
 
-abbrev off : Switches
-off = record { positive = false; negative = false; home = false; index = false }
-
 -- before any event
 abbrev pub atFirst : Known
 atFirst =
@@ -54,7 +51,7 @@ atFirst =
       state = NotReady;
       shown = None;
       control = 0;
-      switches = off;
+      switches = allOff;
       position = pos 0;
       since = never;
     }

@@ -16,11 +16,12 @@ use Rattle.reader.specs.declared.Pending.{Pending}
 use Rattle.reader.specs.declared.Outcome.the-variants.{Complete}
 use Rattle.reader.specs.Read.{emptyPending, readOf}
 use Rattle.states.specs.States.{liveOf}
-use Rattle.takeover.specs.declared.Active.the-variants.{Nothing}
+use Rattle.motion.specs.Motion.{idled}
+use Rattle.takeover.specs.declared.Active.the-variants.{Nothing, Set}
 use Rattle.axis.specs.declared.Axis.{Axis}
 use Rattle.ticks.specs.declared.Tick.{Tick}
 use Rattle.answers.specs.Answer.{refusedAnswer}
-use Rattle.axis.specs.Word.{withPending, activated, wordOf}
+use Rattle.axis.specs.Word.{withPending, wordOf}
 use Rattle.axis.specs.Tick.{tickOf}
 use Rattle.demands.specs.Events.{Event, word, tick}
 use Rattle.demands.specs.Replies.{Reply, said, answered, axisFrom, repliesFrom}
@@ -56,6 +57,15 @@ abbrev pub AllAccepted : List Reply → Type 0
 AllAccepted [] = Unit {0}
 AllAccepted (said v ∷ rs) = (v ≡ Accepted) × AllAccepted rs
 AllAccepted (answered a ∷ rs) = AllAccepted rs
+
+-- "all its fields come into force together, homed and homing error are cleared, homing is idle"
+abbrev pub activated : Settings → Axis → Axis
+activated s a =
+    record {
+      active = Set s;
+      pending = a .pending;
+      motion = idled (a .motion);
+    }
 
 -- all words are accepted, and the last, w, changes what an activation changes, and that alone
 pub record Activates (a : Axis) (s : Settings) (es : List Event) (w : ℕ) : Type 0 where

@@ -6,7 +6,7 @@ use mathlib.Core.Bool.{Bool, true, false, _&&_}
 use mathlib.Core.List.{List, [], _∷_}
 use lib.Dec.{eqb}
 use Rattle.states.specs.declared.State.{State}
-use Rattle.states.specs.declared.State.the-variants.{NotReady, SwitchOnDisabled, Ready, SwitchedOn, OperationEnabled, QuickStopActive, FaultReaction, Fault}
+use Rattle.states.specs.declared.State.the-variants.{NotReady, SwitchOnDisabled, Ready, OperationEnabled, QuickStopActive, FaultReaction, Fault}
 use Rattle.control.specs.Control.{controlCommandOf}
 use Rattle.drive.specs.Transitions.{nextOf}
 use Rattle.states.specs.Alarm.{leastSet, alarmNumberOf}

@@ -17,17 +17,14 @@ ghost use Rattle.exports.specs.Run.{said, eventAt, fedBy, putAt, filled}
 fn word_answer(verdict: Verdict) -> Answer
     ensures { λ r. ⌜ r ≡ said verdict ⌝ }
 {
-    match verdict {
-        Verdict::Accepted => Answer {
-            number: 0,
-            torque: 0,
-            speed: 0,
-            position: 0,
-            status: 0,
-            mode: 0,
-            alarm: 0,
-        },
-        Verdict::Refused(refusal) => answers::refused(refusal),
+    Answer {
+        number: settings::verdict_number(verdict),
+        torque: 0,
+        speed: 0,
+        position: 0,
+        status: 0,
+        mode: 0,
+        alarm: 0,
     }
 }
 
@@ -100,7 +97,5 @@ pub extern "C" fn axis_write(fields: &[u32; 15], buffer: &mut [u32]) -> u32
     ensures words { λ _. ⌜ now (buffer .exit) ≡ written (settingsIn (now (fields .entry))) (now (buffer .entry)) ⌝ }
 {
     let s = records::settings_in(fields);
-    let verdict = writer::write(s, buffer);
-    let told = word_answer(verdict);
-    told.number
+    settings::verdict_number(writer::write(s, buffer))
 }

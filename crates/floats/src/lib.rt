@@ -15,7 +15,7 @@ pub enum Float {
 fn of_bits(bits: u32) -> f32
     ensures { λ r. ⌜ r ≡ ofBits binary32 bits ⌝ }
 {
-    if (bits % 2147483648 / 8388608 == 255) & (bits % 8388608 != 0) {
+    if (bits % 0x80000000 / 0x800000 == 255) & (bits % 0x800000 != 0) {
         let infinity = f32::from_bits(0x7f80_0000);
         infinity - infinity
     } else {

@@ -5,11 +5,10 @@ use mathlib.Core.Bool.{Bool, true, false, cond}
 use mathlib.Core.List.{List, [], _∷_}
 use mathlib.Core.Path.{_≡_, refl, sym, ap, _∙_}
 use native.Mathlib.Omega.{arith}
-use borrow.Author.Tests.{eq-eqb, ne-eqb, ltb-true, ltb-false, lt-ltb, le-ltb}
+use borrow.Author.Tests.{eq-eqb, ne-eqb, ltb-true, ltb-false, le-ltb}
 use lib.Dec.{eqb, ltb}
-use lib.ListN.{length, take, getD}
+use lib.ListN.{length, getD}
 use lib.Seq.{take-all, getD-take}
-use Rattle.gather.specs.declared.Ended.{Ended}
 use Rattle.gather.specs.declared.Ended.the-variants.{Text, TooLong}
 use Rattle.gather.specs.declared.Held.{Held}
 use Rattle.gather.specs.Lines.{Holds, withoutCR, fittingOf, endedOf, Inside}

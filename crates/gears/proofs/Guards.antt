@@ -1,6 +1,6 @@
 -- On settings in range the gear's guards change nothing.
 -- Assumes nothing.
-use Prim.Native.Nat.{_≤_, _^_}
+use Prim.Native.Nat.{_^_}
 use mathlib.Core.Path.{_≡_}
 use mathlib.Core.Bool.{true}
 use native.Mathlib.Omega.{arith}

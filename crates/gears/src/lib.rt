@@ -8,10 +8,10 @@ ghost use Rattle.gears.specs.Gear.{gearedOf, withinReach, inReach};
 fn capped(numerator: u32) -> u32
     ensures { λ r. ⌜ r ≡ min numerator (2 ^ 20) ⌝ }
 {
-    if numerator < 1048576 {
+    if numerator < 0x100000 {
         numerator
     } else {
-        1048576
+        0x100000
     }
 }
 
@@ -28,7 +28,7 @@ fn within_reach(s: Settings, position: i32) -> bool
     ensures { λ r. ⌜ r ≡ withinReach s position ⌝ }
 {
     let count = geared(s, position);
-    (-1073741824 <= count) & (count <= 1073741824)
+    (-0x40000000 <= count) & (count <= 0x40000000)
 }
 
 // Both position limits are in reach.

@@ -6,7 +6,7 @@ use mathlib.Core.Option.{Option, none, some}
 use Prim.Native.Nat.{ℕ, _+_}
 use native.Mathlib.Omega.{arith}
 use borrow.Author.Tests.{eq-eqb, ne-eqb}
-use Rattle.homing.specs.declared.Phase.the-variants.{Idle, Running, Homed, Failed}
+use Rattle.homing.specs.declared.Phase.the-variants.{Idle, Running, Failed}
 use Rattle.legs.specs.declared.events.View.{View}
 use Rattle.legs.specs.declared.Leg.{Leg}
 use Rattle.legs.specs.declared.Found.the-variants as found

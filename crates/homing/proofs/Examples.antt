@@ -9,7 +9,7 @@ use Rattle.counts.specs.Wrap.{modulo, signed, wrapped}
 use Rattle.counts.specs.Movement.{movementOf}
 use Rattle.legs.specs.declared.events.Switches.{Switches}
 use Rattle.legs.specs.declared.events.View.{View}
-use Rattle.legs.specs.Events.{eventCounts, limitCounts}
+use Rattle.legs.specs.Events.{allOff, eventCounts, limitCounts}
 use Rattle.legs.specs.Routes.{rowOf, planOf}
 use Rattle.homing.specs.Complete.{CompletesPlan}
 use Rattle.legs.specs.Places.{legAt}
@@ -17,7 +17,7 @@ use Rattle.homing.specs.Places.{entered, limitAt, runningOf, startOf, st
 use Rattle.homing.proofs.Simulation.{homing-iff}
 
 abbrev off : Switches
-off = record { positive = false; negative = false; home = false; index = false }
+off = allOff
 
 abbrev home : Switches
 home = record { positive = false; negative = false; home = true; index = false }

@@ -2,10 +2,9 @@
 -- Assumes nothing.
 use Prim.Native.Nat.{ℕ, _+_}
 use mathlib.Core.Bool.{Bool, true, false, cond, _&&_}
-use mathlib.Core.List.{List, [], _∷_, map}
+use mathlib.Core.List.{List, [], _∷_}
 use mathlib.Core.Option.{Option, none, some}
 use lib.Dec.{eqb}
-use lib.ListN.{getD}
 use Rattle.homing.specs.declared.Phase.{Phase}
 use Rattle.homing.specs.declared.Phase.the-variants.{Idle, Running, Homed, Failed}
 use Rattle.legs.specs.declared.events.View.{View}

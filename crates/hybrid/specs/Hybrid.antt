@@ -40,6 +40,6 @@ negative (fin s m e) = s
 unfoldable pub wholeOf : Float → ℤ
 wholeOf q = cond (negative q) (negℤ (pos (sizeOf q))) (pos (sizeOf q))
 
--- z, or the end of the i32 range that it is beyond. It stands in no promise: a clamp between two i32 cannot tell it from z.
+-- z, or the end of the i32 range that it is beyond. It stands in no public promise: a clamp between two i32 cannot tell it from z.
 unfoldable pub saturated : ℤ → ℤ
 saturated z = clamped z (negℤ (pos (2 ^ 31))) (pos (2 ^ 31 - 1))

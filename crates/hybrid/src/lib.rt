@@ -45,15 +45,15 @@ fn size(bits: u32) -> u32
     requires { ⌜ finite (ofBits binary32 bits) ≡ true ⌝ }
     ensures { λ r. ⌜ r ≡ min (sizeOf (ofBits binary32 bits)) (2 ^ 31) ⌝ }
 {
-    let exponent = bits % 2147483648 / 8388608;
-    let digits = bits % 8388608 + 8388608;
+    let exponent = bits % 0x80000000 / 0x800000;
+    let digits = bits % 0x800000 + 0x800000;
     if exponent < 127 {
         return 0;
     }
     if exponent < 158 {
         (digits * 128) >> (157 - exponent)
     } else {
-        2147483648
+        0x80000000
     }
 }
 
@@ -65,7 +65,7 @@ fn signed(negative: bool, n: u32) -> i32
     if negative {
         return (-(n as i64)) as i32;
     }
-    if n < 2147483648 { n as i32 } else { 2147483647 }
+    if n < 0x80000000 { n as i32 } else { 0x7FFFFFFF }
 }
 
 // q's whole part, and the nearer end of the i32 range where it is beyond it.
@@ -74,7 +74,7 @@ fn whole(q: f32) -> i32
 {
     if is_finite(q) {
         let bits = f32::to_bits(q);
-        signed(bits >= 2147483648, size(bits))
+        signed(bits >= 0x80000000, size(bits))
     } else {
         0
     }

@@ -5,7 +5,7 @@ ghost use Rattle.kinds.specs.Fields.{torqueLimitsOk, fieldOk};
 fn torque_limits_ok(value: u32) -> bool
     ensures { λ r. ⌜ r ≡ torqueLimitsOk value ⌝ }
 {
-    ranges::torque_ok(value % 16384) & ranges::torque_ok(value / 16384)
+    ranges::torque_ok(value % 0x4000) & ranges::torque_ok(value / 0x4000)
 }
 
 pub fn field_ok(kind: u32, value: u32) -> bool

@@ -1,7 +1,7 @@
 -- The rule of the code's table: each leg that the code picks out of its digits is the one that the routes have there. One computed test over
 -- the whole table, and the law of `Computed`.
 -- Assumes nothing.
-use mathlib.Core.Path.{_≡_, refl, _∙_}
+use mathlib.Core.Path.{_≡_, refl}
 use mathlib.Core.Bool.{Bool, true, false}
 use mathlib.Core.Option.{Option, none, some}
 use Prim.Native.Nat.{ℕ, _+_, _-_, _*_, _/_, _%_, _^_, _≤_, _<_}

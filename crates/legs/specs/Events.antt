@@ -11,6 +11,9 @@ use Rattle.legs.specs.declared.Switch.the-variants.{Home, Index, LimitAh
 use Rattle.legs.specs.declared.Edge.{Edge}
 use Rattle.legs.specs.declared.Edge.the-variants.{Rise, Drop}
 
+abbrev pub allOff : Switches
+allOff = record { positive = false; negative = false; home = false; index = false }
+
 -- the movement "has the leg's sign"
 abbrev pub along : Bool → Movement → Bool
 along forward Backward = not forward

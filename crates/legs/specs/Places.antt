@@ -21,7 +21,8 @@ rest (l ∷ ls) = ls
 abbrev four : List Leg → List Found → List Found
 four ls more = slot ls 0 ∷ slot ls 1 ∷ slot ls 2 ∷ slot ls 3 ∷ more
 
--- no route has more than three legs, so each ends in an empty place: 0 to 3 are route a, 4 to 7 route b from its second leg on, 8 to 11 route c
+-- 0 to 3 are route a, 4 to 7 route b from its second leg on, 8 to 11 route c; none of these has more than three legs, so each ends in an
+-- empty place
 abbrev pub placesOf : Row → List Found
 placesOf r = four (r .a) (four (rest (r .b)) (four (r .c) []))
 

@@ -46,7 +46,7 @@ abbrev pub -F : Event → Leg
 abbrev pub -S : Event → Leg
 -S e = legOf false false e
 
--- the leg that runs as l does, to the limit ahead: b's first, where l is a's (`proofs/LimitLeg.antt`)
+-- the leg that runs as l does, to the limit ahead: b's first, where l is a's (`first-legs` of homing)
 abbrev pub toLimit : Leg → Leg
 toLimit l = legOf (l .forward) (l .fast) L
 
@@ -111,7 +111,7 @@ unfoldable pub rowOf : ℕ → Option Row
 rowOf m = lookup m table
 
 -- the routes that a start allows: a or c, and beside an a the legs of b from its second on. b's first leg is a's first awaiting the limit
--- (`proofs/LimitLeg.antt`, computed for every method), so nothing but a's first leg need say it.
+-- (`first-legs` of homing, computed for every method with a b), so nothing but a's first leg need say it.
 pub record Plan : Type 0 where
   pub main : List Leg
   pub turn : Option (List Leg)

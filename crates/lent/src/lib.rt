@@ -28,5 +28,5 @@ pub fn write(writing: Writing, out: &mut [u8]) -> usize
     let n = words_lent(writing.length);
     let mut buffer = unwritten();
     let verdict = writer::write(settings, &mut buffer[..n]);
-    printer::sheet(out, printer::number(verdict), &buffer[..n])
+    printer::sheet(out, settings::verdict_number(verdict), &buffer[..n])
 }

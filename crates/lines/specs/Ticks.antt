@@ -15,9 +15,9 @@ use Rattle.torque.specs.declared.LimitSet.{LimitSet}
 use Rattle.torque.specs.declared.LimitSet.the-variants.{Set1, Set2}
 use Rattle.lines.specs.declared.tick_line.TickRead.{TickRead}
 
-abbrev pub setOf : Bool → LimitSet
-setOf true = Set1
-setOf false = Set2
+abbrev pub set1If : Bool → LimitSet
+set1If true = Set1
+set1If false = Set2
 
 unfoldable pub tickRead : List ℕ → Cursor → TickRead
 tickRead text c =
@@ -36,7 +36,7 @@ tickRead text c =
             position = position .value;
             switches = switches .value;
             still = still .value;
-            set = setOf (set .value);
+            set = set1If (set .value);
             alarm = alarm .value;
           };
       cursor = endOf text (alarm .cursor);

@@ -3,7 +3,7 @@ use cursors::Cursor;
 use ticks::Tick;
 use torque::LimitSet;
 ghost use mathlib.Core.Path.{_≡_};
-ghost use Rattle.lines.specs.Ticks.{setOf, tickRead};
+ghost use Rattle.lines.specs.Ticks.{set1If, tickRead};
 
 pub struct TickRead {
     pub tick: Tick,
@@ -11,7 +11,7 @@ pub struct TickRead {
 }
 
 fn limit_set(first: bool) -> LimitSet
-    ensures { λ r. ⌜ r ≡ setOf first ⌝ }
+    ensures { λ r. ⌜ r ≡ set1If first ⌝ }
 {
     if first {
         LimitSet::Set1

@@ -1,15 +1,11 @@
--- 01, "The show axis", "A tick": what a fresh axis keeps, and what a takeover clears of it.
+-- What a fresh axis keeps (01, "Homing routes" and "A tick"), and what a takeover clears of it (01, "The sheet").
 -- Assumes nothing.
-use mathlib.Core.Bool.{false}
 use lib.IntN.{pos}
-use Rattle.legs.specs.declared.events.Switches.{Switches}
+use Rattle.legs.specs.Events.{allOff}
 use Rattle.states.specs.declared.State.the-variants.{NotReady}
 use Rattle.modes.specs.declared.Mode.the-variants.{None}
 use Rattle.homing.specs.declared.Phase.the-variants.{Idle}
 use Rattle.motion.specs.declared.Motion.{Motion}
-
-abbrev allOff : Switches
-allOff = record { positive = false; negative = false; home = false; index = false }
 
 -- "state Not ready, idle homing and neither homed nor error"; "a fresh axis remembers zeros and shows mode 0, alarm 0"
 abbrev pub freshMotion : Motion

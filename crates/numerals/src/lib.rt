@@ -33,7 +33,7 @@ pub fn unsigned32(text: &[u8]) -> Number
     ensures { λ r. ⌜ r ≡ unsigned32Of (now (text .entry)) ⌝ }
     ensures { λ r. ⌜ Below (2 ^ 32) r ⌝ }
 {
-    below(spelling::decimal(text), 4294967296)
+    below(spelling::decimal(text), 0x100000000)
 }
 
 // 1 to 10 decimal digits of a number of at most 32.
@@ -102,12 +102,12 @@ pub fn whole16(text: &[u8]) -> Whole
     ensures { λ r. ⌜ r ≡ signedOf (2 ^ 15) (now (text .entry)) ⌝ }
     ensures { λ r. ⌜ Within (2 ^ 15) r ⌝ }
 {
-    signed(text, 32768)
+    signed(text, 0x8000)
 }
 
 // A signed number of 32 bits.
 pub fn whole32(text: &[u8]) -> Whole
     ensures { λ r. ⌜ r ≡ signedOf (2 ^ 31) (now (text .entry)) ⌝ }
 {
-    signed(text, 2147483648)
+    signed(text, 0x80000000)
 }

@@ -1,5 +1,4 @@
 // Text appended to a page at a place; the place after it is answered. What does not fit is cut off.
-ghost use mathlib.Core.Path.{_≡_};
 ghost use mathlib.Core.List.{_∷_, []};
 ghost use Rattle.page.specs.Page.{Printed};
 

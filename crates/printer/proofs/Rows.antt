@@ -1,6 +1,6 @@
 -- Each row of the code's list of trade words is the text that the definitions give it: computed, row by row.
 -- Assumes nothing.
-use Prim.Native.Nat.{ℕ, zero, suc, min, _≤_}
+use Prim.Native.Nat.{ℕ, zero, suc}
 use mathlib.Core.List.{List}
 use mathlib.Core.Path.{_≡_, refl}
 use native.Mathlib.Omega.{arith}

@@ -1,21 +1,9 @@
 // Answers as text, on a page that the caller lends. What does not fit on the page is cut off.
 
 use answers::Answer;
-use settings::Verdict;
 ghost use mathlib.Core.Path.{_≡_};
 ghost use Rattle.page.specs.Page.{Printed};
 ghost use Rattle.printer.specs.Texts.{tradeRow, tradeWord, freshText, wordText, motionText, tickText, wordsText, sheetText};
-ghost use Rattle.settings.specs.Refusal.{verdictNumber};
-
-// The number of a verdict in 01: 0 where accepted.
-pub fn number(verdict: Verdict) -> u32
-    ensures { λ r. ⌜ r ≡ verdictNumber verdict ⌝ }
-{
-    match verdict {
-        Verdict::Accepted => 0,
-        Verdict::Refused(refusal) => settings::number(refusal),
-    }
-}
 
 fn trade_row(number: u32) -> usize
     ensures { λ r. ⌜ r ≡ tradeRow number ⌝ }

@@ -20,19 +20,19 @@ pub fn method_ok(method: u32) -> bool
 pub fn speed_ok(speed: u32) -> bool
     ensures { λ r. ⌜ r ≡ speedOk speed ⌝ }
 {
-    within(1, 268435455, speed)
+    within(1, 0xFFFFFFF, speed)
 }
 
 pub fn ratio_ok(ratio: u32) -> bool
     ensures { λ r. ⌜ r ≡ ratioOk ratio ⌝ }
 {
-    within(1, 1048576, ratio)
+    within(1, 0x100000, ratio)
 }
 
 pub fn position_ok(position: i32) -> bool
     ensures { λ r. ⌜ r ≡ positionOk position ⌝ }
 {
-    (-134217728 <= position) & (position < 134217728)
+    (-0x8000000 <= position) & (position < 0x8000000)
 }
 
 pub fn torque_ok(torque: u32) -> bool
@@ -50,5 +50,5 @@ pub fn option_ok(option: u32) -> bool
 pub fn rated_ok(rated: u32) -> bool
     ensures { λ r. ⌜ r ≡ ratedOk rated ⌝ }
 {
-    within(1, 16777216, rated)
+    within(1, 0x1000000, rated)
 }

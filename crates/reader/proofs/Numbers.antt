@@ -1,8 +1,8 @@
 -- For each number that the reader gives: it is given if and only if its case holds and no earlier test's does.
 -- Assumes nothing.
 use Prim.Native.Nat.{ℕ}
-use mathlib.Core.Path.{_≡_, refl, sym, _∙_}
-use mathlib.Core.Bool.{Bool, true, false, cond, not, _&&_, _||_}
+use mathlib.Core.Path.{_≡_, refl, _∙_}
+use mathlib.Core.Bool.{Bool, true, false, cond, not, _&&_}
 use mathlib.Core.Logic.{_↔_}
 use native.Mathlib.Omega.{arith}
 use borrow.Author.Tests.{eqb-true}
@@ -21,7 +21,7 @@ use Rattle.words.specs.Encode.{checksumOf}
 use Rattle.words.specs.Decode.{settingsOf}
 use Rattle.reader.specs.declared.Pending.{Pending}
 use Rattle.kinds.specs.Fields.{fieldOk}
-use Rattle.reader.specs.Read.{dueKind, refused, stored, started, kept, outOfSequence, startOf, fieldOf, judged, endOf, readOf, outcomeNumber}
+use Rattle.reader.specs.Read.{refused, stored, started, kept, outOfSequence, startOf, fieldOf, judged, endOf, readOf, outcomeNumber}
 use Rattle.reader.specs.Cases.{isStart, isEnd, unknownLayout, outOfRange, checksumMismatch, limitsCrossed, outOfReach}
 
 judged-number : (s : Settings) (v : Verdict) → outcomeNumber (judged s v .outcome) ≡ verdictNumber v

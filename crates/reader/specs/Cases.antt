@@ -2,7 +2,7 @@
 -- (`proofs/Numbers.antt`).
 -- Assumes nothing.
 use Prim.Native.Nat.{ℕ}
-use mathlib.Core.Bool.{Bool, not, _&&_, _||_}
+use mathlib.Core.Bool.{Bool, not, _&&_}
 use lib.Dec.{eqb}
 use Rattle.checks.specs.Cases as checks
 use Rattle.words.specs.Word.{kindOf, dataOf}
@@ -10,7 +10,6 @@ use Rattle.words.specs.Encode.{checksumOf}
 use Rattle.words.specs.Decode.{settingsOf}
 use Rattle.reader.specs.declared.Pending.{Pending}
 use Rattle.kinds.specs.Fields.{fieldOk}
-use Rattle.reader.specs.Read.{dueKind}
 
 abbrev pub isStart : ℕ → Bool
 isStart w = eqb (kindOf w) 0

@@ -45,9 +45,9 @@ requestAt e k = clamped (signedAt e k) (negsuc 32767) (pos 32767)
 abbrev pub switchesIn : ℕ → Switches
 switchesIn inputs = record { positive = bitOf inputs 0; negative = bitOf inputs 1; home = bitOf inputs 2; index = bitOf inputs 3 }
 
-abbrev pub setOf : Bool → LimitSet
-setOf true = Set2
-setOf false = Set1
+abbrev pub set2If : Bool → LimitSet
+set2If true = Set2
+set2If false = Set1
 
 unfoldable pub gainsIn : List Float → Hybrid
 gainsIn f =
@@ -76,7 +76,7 @@ tickIn e f =
       position = signedAt e 2;
       switches = switchesIn (halfAt e 3);
       still = bitOf (halfAt e 3) 4;
-      set = setOf (bitOf (halfAt e 3) 5);
+      set = set2If (bitOf (halfAt e 3) 5);
       alarm = wordAt e 4;
     }
 

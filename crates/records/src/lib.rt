@@ -10,7 +10,7 @@ use ticks::Tick;
 use torque::LimitSet;
 ghost use mathlib.Core.Path.{_≡_};
 ghost use Rattle.counts.specs.Wrap.{modulo};
-ghost use Rattle.records.specs.Words.{wordAt, floatAt, signedAt, halfAt, requestAt, gainsIn, switchesIn, setOf, commandIn, tickIn, settingsIn, answerWords};
+ghost use Rattle.records.specs.Words.{wordAt, floatAt, signedAt, halfAt, requestAt, gainsIn, switchesIn, set2If, commandIn, tickIn, settingsIn, answerWords};
 
 // A word; 0 past the last.
 fn word(words: &[u32], at: usize) -> u32
@@ -37,21 +37,21 @@ fn signed(words: &[u32], at: usize) -> i32
 fn half(words: &[u32], at: usize) -> u16
     ensures { λ r. ⌜ r ≡ halfAt (now (words .entry)) at ⌝ }
 {
-    (word(words, at) % 65536) as u16
+    (word(words, at) % 0x10000) as u16
 }
 
 // A torque request, held within 16 bits.
 fn request(words: &[u32], at: usize) -> i16
     ensures { λ r. ⌜ r ≡ requestAt (now (words .entry)) at ⌝ }
 {
-    counts::clamp(signed(words, at), -32768, 32767) as i16
+    counts::clamp(signed(words, at), -0x8000, 0x7FFF) as i16
 }
 
 // A number's 32-bit pattern.
 fn pattern(number: i32) -> u32
     ensures { λ r. ⌜ r ≡ modulo 32 number ⌝ }
 {
-    ((number as i64 + 4294967296) as u64 % 4294967296) as u32
+    ((number as i64 + 0x100000000) as u64 % 0x100000000) as u32
 }
 
 fn switches(inputs: u16) -> Switches
@@ -66,7 +66,7 @@ fn switches(inputs: u16) -> Switches
 }
 
 fn limit_set(second: bool) -> LimitSet
-    ensures { λ r. ⌜ r ≡ setOf second ⌝ }
+    ensures { λ r. ⌜ r ≡ set2If second ⌝ }
 {
     if second {
         LimitSet::Set2

@@ -2,7 +2,7 @@
 -- acceptable settings have exactly one list of fifteen words.
 -- The idea: fewer than fifteen words that complete settings hold no start word, since fourteen follow one; so of fifteen the first is it.
 -- Assumes nothing.
-use Prim.Native.Nat.{ℕ, _+_, _%_, _^_, _<_, _≤_, min}
+use Prim.Native.Nat.{ℕ, _+_, _^_, _<_, min}
 use mathlib.Core.Path.{_≡_, refl, sym, ap, _∙_, subst, subst₂}
 use mathlib.Core.Bool.{Bool, true, false, cond}
 use mathlib.Core.List.{List, [], _∷_, _++_}
@@ -21,9 +21,8 @@ use Rattle.words.proofs.Words.{length-words}
 use Rattle.words.proofs.Widths.{Below}
 use Rattle.reader.specs.declared.Pending.{Pending}
 use Rattle.reader.specs.declared.Reading.{Reading}
-use Rattle.reader.specs.declared.Outcome.{Outcome}
 use Rattle.reader.specs.declared.Outcome.the-variants.{Stored, Complete}
-use Rattle.reader.specs.Read.{emptyPending, dueKind, stored, complete, started, kept, readOf, outcomeNumber}
+use Rattle.reader.specs.Read.{emptyPending, dueKind, started, kept, readOf, outcomeNumber}
 use Rattle.reader.proofs.Accepted.{AcceptedBy, begins, keeps, closes, accepted-by}
 use Rattle.roundtrip.specs.ReadInto.{ReadInto, last, more}
 use Rattle.roundtrip.proofs.Values.{InFields}

@@ -1,8 +1,8 @@
 -- Every acceptable settings' words, read from any pending settings, are all accepted and give those settings, equal in every field.
 -- Assumes nothing.
-use Prim.Native.Nat.{ℕ, _+_, _*_, _/_, _%_, _^_, _<_, _≤_}
+use Prim.Native.Nat.{ℕ, _+_, _^_, _<_}
 use mathlib.Core.Path.{_≡_, refl, sym, ap, _∙_, subst}
-use mathlib.Core.Bool.{Bool, true, false, cond}
+use mathlib.Core.Bool.{true}
 use mathlib.Core.List.{List, [], _∷_, _++_}
 use native.Mathlib.Omega.{arith}
 use borrow.Author.Tests.{eq-eqb, lt-ltb}
@@ -17,9 +17,8 @@ use Rattle.words.specs.Decode.{settingsOf}
 use Rattle.words.proofs.Widths.{Below, values-below}
 use Rattle.reader.specs.declared.Pending.{Pending}
 use Rattle.reader.specs.declared.Reading.{Reading}
-use Rattle.reader.specs.declared.Outcome.the-variants.{Complete}
 use Rattle.kinds.specs.Fields.{fieldOk}
-use Rattle.reader.specs.Read.{dueKind, stored, complete, started, kept, startOf, fieldOf, judged, endOf, readOf, outcomeNumber}
+use Rattle.reader.specs.Read.{dueKind, stored, complete, started, kept, startOf, fieldOf, endOf, readOf, outcomeNumber}
 use Rattle.reader.proofs.Steps.{read-start, read-end, read-field}
 use Rattle.roundtrip.specs.ReadInto.{ReadInto, last, more}
 use Rattle.roundtrip.proofs.Values.{InFields, values-in-fields, values-read}

@@ -15,6 +15,7 @@ use Rattle.ranges.specs.Range.{methodOk}
 use Rattle.settings.specs.Ranges.{inRange}
 use Rattle.gears.specs.Gear.{gearedOf, inReach}
 use Rattle.checks.specs.Check.{acceptable, limitsVerdict}
+use Rattle.words.specs.Word.{sameWords}
 use Rattle.words.specs.Encode.{valuesOf, total, checksumOf, wordsFrom, wordsOf}
 use Rattle.words.specs.Decode.{settingsOf}
 use Rattle.reader.specs.declared.Pending.{Pending}
@@ -57,12 +58,6 @@ numbers p (w ∷ ws) = outcomeNumber (readOf p w .outcome) ∷ numbers (readOf p
 unfoldable pub target : ℤ → ℤ
 target z = gearedOf settings-S (clamped z (settings-S .lower) (settings-S .upper))
 
-abbrev sameList : List ℕ → List ℕ → Bool
-sameList [] [] = true
-sameList [] (y ∷ ys) = false
-sameList (x ∷ xs) [] = false
-sameList (x ∷ xs) (y ∷ ys) = eqb x y && sameList xs ys
-
 abbrev same : ℤ → ℤ → Bool
 same (pos a) (pos b) = eqb a b
 same (pos a) (negsuc b) = false
@@ -72,11 +67,11 @@ same (negsuc a) (negsuc b) = eqb a b
 unfoldable pub table : List Bool
 table =
     acceptable settings-S
-    ∷ sameList (wordsOf settings-S) words-S
-    -- S is taken over; its last digit C: 4; sixth word of kind 6: 1
-    ∷ sameList (numbers emptyPending words-S) (replicate 15 0)
-    ∷ sameList (numbers emptyPending (take 14 words-S ++ (0xF0E1622C ∷ []))) (replicate 14 0 ++ (4 ∷ []))
-    ∷ sameList (numbers emptyPending (take 5 words-S ++ (0x60000002 ∷ []))) (replicate 5 0 ++ (1 ∷ []))
+    ∷ sameWords (wordsOf settings-S) words-S
+    -- S is read; its last digit C: 4; sixth word of kind 6: 1
+    ∷ sameWords (numbers emptyPending words-S) (replicate 15 0)
+    ∷ sameWords (numbers emptyPending (take 14 words-S ++ (0xF0E1622C ∷ []))) (replicate 14 0 ++ (4 ∷ []))
+    ∷ sameWords (numbers emptyPending (take 5 words-S ++ (0x60000002 ∷ []))) (replicate 5 0 ++ (1 ∷ []))
     -- target 5 gears to 7, −5 to −8, 1001 and 1000 to 1500
     ∷ same (target (pos 5)) (pos 7)
     ∷ same (target (negsuc 4)) (negsuc 7)

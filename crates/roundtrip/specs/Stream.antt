@@ -19,7 +19,7 @@ abbrev pub pendingAfter : List ℕ → Pending
 pendingAfter ws = pendingFrom emptyPending ws
 
 -- 01: "an unbroken run of due words from a start word on, none refused, … closed by an end word that meets no refusal": the words end in
--- the fifteen words of settings, and these are acceptable
+-- the fifteen words of settings, and these are acceptable. Refusal 7, which goes by the drive, is left to the axis
 pub record EndsIn (s : Settings) (ws : List ℕ) : Type 0 where
   pub before : List ℕ
   pub words : ws ≡ before ++ wordsOf s

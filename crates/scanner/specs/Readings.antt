@@ -3,7 +3,7 @@
 use Prim.Native.Nat.{ℕ}
 use mathlib.Core.List.{List}
 use lib.Ieee as Ieee
-use lib.IntN.{ℤ, pos}
+use lib.IntN.{pos}
 use Rattle.cursors.specs.Cursor.{acceptOf, refuseOf, placeOf, wordOf}
 use Rattle.cursors.specs.declared.Cursor.{Cursor}
 use Rattle.cursors.specs.declared.Expected.{Expected}

@@ -11,7 +11,7 @@ ghost use lib.Signed.{mag};
 ghost use Rattle.numerals.specs.Signs.{signedOf};
 ghost use Rattle.numerals.specs.Limits.{unsigned32Of, lengthOf};
 ghost use Rattle.spelling.specs.Spelling.{spelledOf, Below};
-ghost use Rattle.scanner.specs.Readings.{numberRead, numberOf, wholeRead, wholeOf, floatRead, floatAt};
+ghost use Rattle.scanner.specs.Readings.{numberRead, numberOf, wholeRead, wholeOf, floatAt};
 
 // Values read, each of no meaning where the cursor is lost.
 pub struct NumberRead {

@@ -51,7 +51,7 @@ impl Session {
         let worded = axis.word(word);
         let verdict = worded.verdict;
         let next = worded.axis;
-        let length = printer::word(out, printer::number(verdict));
+        let length = printer::word(out, settings::verdict_number(verdict));
         Answered {
             session: self.with(next),
             length,

@@ -2,7 +2,7 @@
 //
 // Settings are plain data: every value of every field is answered, and only `checks::check` says whether they may be used.
 ghost use mathlib.Core.Path.{_≡_};
-ghost use Rattle.settings.specs.Refusal.{numberOf};
+ghost use Rattle.settings.specs.Refusal.{numberOf, verdictNumber};
 
 pub mod fields;
 
@@ -66,5 +66,15 @@ pub fn number(refusal: Refusal) -> u32
         Refusal::DriveActive => 7,
         Refusal::NoSettings => 8,
         Refusal::BufferTooShort => 9,
+    }
+}
+
+// The verdict's number in 01: 0 where accepted.
+pub fn verdict_number(verdict: Verdict) -> u32
+    ensures { λ r. ⌜ r ≡ verdictNumber verdict ⌝ }
+{
+    match verdict {
+        Verdict::Accepted => 0,
+        Verdict::Refused(refusal) => number(refusal),
     }
 }

@@ -12,7 +12,7 @@ ghost use Rattle.speed.specs.Speed.{signedOf, legSpeed, foundSpeed, spee
 fn capped(speed: u32) -> u32
     ensures { λ r. ⌜ r ≡ min speed (2 ^ 28 - 1) ⌝ }
 {
-    if speed < 268435455 { speed } else { 268435455 }
+    if speed < 0xFFFFFFF { speed } else { 0xFFFFFFF }
 }
 
 // A magnitude with the sign of a direction.

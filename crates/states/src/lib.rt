@@ -68,7 +68,7 @@ fn state_number(state: State) -> u32
 }
 
 // Whether a tick from one state to another entered Fault reaction.
-pub fn entered_fault(before: State, after: State) -> bool
+fn entered_reaction(before: State, after: State) -> bool
     ensures { λ r. ⌜ r ≡ enters State.FaultReaction before after ⌝ }
 {
     !in_state(before, State::FaultReaction) & in_state(after, State::FaultReaction)
@@ -78,7 +78,7 @@ pub fn entered_fault(before: State, after: State) -> bool
 pub fn latched(number: u32, before: State, after: State, alarm: u32) -> u32
     ensures { λ r. ⌜ r ≡ latchedOf number before after alarm ⌝ }
 {
-    if entered_fault(before, after) {
+    if entered_reaction(before, after) {
         return alarm_number(alarm);
     }
     if in_state(before, State::Fault) & !in_state(after, State::Fault) {

@@ -4,7 +4,6 @@ use modes::Mode;
 use states::State;
 ghost use mathlib.Core.Path.{_≡_};
 ghost use Prim.Native.Nat.{_≤_};
-ghost use Rattle.states.specs.Status.{statusOf};
 ghost use Rattle.status.specs.Statusword.{weightOf, limitedOf, reachedOf, acknowledgedOf, homingErrorOf, statuswordOf};
 
 // What the statusword shows besides the drive's state.

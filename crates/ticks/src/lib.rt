@@ -96,7 +96,8 @@ fn command_target(command: Command, matched: bool, state: State, homed: bool) ->
     }
 }
 
-pub fn reached(was: Motion, s: Settings, t: Tick) -> Moment
+// What a tick comes to, in 01's order: mode, drive state, homing.
+pub fn moment_of(was: Motion, s: Settings, t: Tick) -> Moment
     ensures { λ r. ⌜ r ≡ momentOf s was t ⌝ }
 {
     let command = t.command;

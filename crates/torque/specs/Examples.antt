@@ -8,7 +8,6 @@ use lib.Dec.{eqb}
 use lib.IntN.{ℤ, pos, negsuc}
 use Rattle.counts.specs.Clamp.{clamped}
 use Rattle.settings.specs.declared.Settings.{Settings}
-use Rattle.torque.specs.declared.LimitSet.{LimitSet}
 use Rattle.torque.specs.declared.LimitSet.the-variants.{Set1, Set2}
 use Rattle.torque.specs.Limits.{capOf}
 use Rattle.torque.specs.Torque.{torqueOf}

@@ -25,13 +25,13 @@ fn cap(maximum: u32, limit: u32) -> u32
     ensures { λ r. ⌜ r ≡ capOf maximum limit ⌝ }
 {
     if maximum < limit {
-        least(maximum)
+        at_most_3000(maximum)
     } else {
-        least(limit)
+        at_most_3000(limit)
     }
 }
 
-fn least(torque: u32) -> u32
+fn at_most_3000(torque: u32) -> u32
     ensures { λ r. ⌜ r ≡ min torque 3000 ⌝ }
 {
     if torque < 3000 { torque } else { 3000 }

@@ -1,17 +1,16 @@
 -- The data of settings in range: each fits a word's 28 bits.
 -- Assumes nothing.
-use Prim.Native.Nat.{ℕ, zero, suc, _+_, _-_, _%_, _^_, _<_}
+use Prim.Native.Nat.{ℕ, zero, suc, _+_, _-_, _^_, _<_}
 use mathlib.Core.Path.{_≡_, refl}
 use mathlib.Core.Bool.{Bool, true, false, _||_}
 use mathlib.Core.List.{List, [], _∷_}
 use native.Mathlib.Omega.{arith}
 use borrow.Author.Tests.{leb-true, eqb-true}
 use lib.Dec.{leb, eqb}
-use lib.ListN.{getD}
 use Rattle.settings.specs.declared.Settings.{Settings}
 use Rattle.ranges.specs.Range.{between, methodOk, optionOk}
 use Rattle.settings.specs.Ranges.{inRange}
-use Rattle.settings.proofs.Within.{Within, within, both}
+use Rattle.settings.proofs.Within.{within, both}
 use Rattle.words.specs.Encode.{valuesOf, below}
 use Rattle.words.proofs.Bits.{modulo-below, set-below}
 

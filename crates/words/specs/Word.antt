@@ -1,6 +1,9 @@
 -- 01, "The sheet": a settings word. "The top 4 bits are the kind, the low 28 the data."
 -- Assumes nothing.
 use Prim.Native.Nat.{ℕ, _+_, _*_, _/_, _%_, _^_}
+use mathlib.Core.Bool.{Bool, true, false, _&&_}
+use mathlib.Core.List.{List, [], _∷_}
+use lib.Dec.{eqb}
 
 abbrev pub kindOf : ℕ → ℕ
 kindOf w = w / 2 ^ 28
@@ -11,3 +14,10 @@ dataOf w = w % 2 ^ 28
 -- the word of a kind and its data
 abbrev pub wordOf : ℕ → ℕ → ℕ
 wordOf kind x = kind * 2 ^ 28 + x
+
+-- the same words in the same order
+abbrev pub sameWords : List ℕ → List ℕ → Bool
+sameWords [] [] = true
+sameWords [] (y ∷ ys) = false
+sameWords (x ∷ xs) [] = false
+sameWords (x ∷ xs) (y ∷ ys) = eqb x y && sameWords xs ys

@@ -12,10 +12,10 @@ fn position(value: u32) -> i32
     ensures { λ r. ⌜ r ≡ signed 28 (value % 2 ^ 28) ⌝ }
 {
     let low = value % KIND;
-    if low < 134217728 {
+    if low < 0x8000000 {
         low as i32
     } else {
-        low as i32 - 268435456
+        low as i32 - 0x10000000
     }
 }
 
@@ -36,10 +36,10 @@ pub fn decode(values: [u32; 14]) -> Settings
         lower,
         upper,
         maximum: values[9],
-        positive1: values[10] % 16384,
-        negative1: values[10] / 16384,
-        positive2: values[11] % 16384,
-        negative2: values[11] / 16384,
+        positive1: values[10] % 0x4000,
+        negative1: values[10] / 0x4000,
+        positive2: values[11] % 0x4000,
+        negative2: values[11] / 0x4000,
         option: values[12],
         rated: values[13],
     }
@@ -53,5 +53,5 @@ pub fn checksum(values: [u32; 14]) -> u32
     for i in 0..14 {
         total += values[i] as u64;
     }
-    (total % 268435456) as u32
+    (total % 0x10000000) as u32
 }

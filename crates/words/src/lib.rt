@@ -2,4 +2,4 @@
 pub mod decoder;
 
 // 2^28, the weight of a word's kind.
-pub const KIND: u32 = 268435456;
+pub const KIND: u32 = 0x10000000;

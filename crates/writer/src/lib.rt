@@ -18,7 +18,7 @@ ghost use Rattle.writer.specs.Write.{writeVerdict, written};
 fn low(position: i32) -> u32
     ensures { λ r. ⌜ r ≡ modulo 28 position ⌝ }
 {
-    ((position as i64 + 4294967296) as u64 % 268435456) as u32
+    ((position as i64 + 0x100000000) as u64 % 0x10000000) as u32
 }
 
 // A limit set in one word's data.
@@ -26,7 +26,7 @@ fn limit_set(positive: u32, negative: u32) -> u32
     requires { ⌜ (torqueOk positive ≡ true) × (torqueOk negative ≡ true) ⌝ }
     ensures { λ r. ⌜ r ≡ limitSet positive negative ⌝ }
 {
-    negative * 16384 + positive
+    negative * 0x4000 + positive
 }
 
 // The data of kinds 0 to 13.
@@ -86,5 +86,5 @@ fn fill(values: [u32; 14], buffer: &mut [u32])
         buffer[i] = (i as u32) * KIND + x;
         sum = (sum + x) % KIND;
     }
-    buffer[14] = 4026531840 + sum;
+    buffer[14] = 0xF0000000 + sum;
 }

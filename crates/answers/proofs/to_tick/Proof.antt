@@ -5,15 +5,15 @@ use borrow.Author.Needs.{needs}
 use Rattle.answers.proofs.to_tick.Statement.{statement}
 use Rattle.answers.proofs.to_tick.Tie as tie
 
-reached-requires : tie.Need-reached-requires
-reached-requires c κs = search needs
+moment-of-requires : tie.Need-moment-of-requires
+moment-of-requires c κs = search needs
 
 given-requires : tie.Need-given-requires
 given-requires c κs = search needs
 
 returns : tie.Need-returns
 unfolding answeredIn
-returns c = rw (c .given .ensures, c .before .before .reached .ensures)
+returns c = rw (c .given .ensures, c .before .before .moment-of .ensures)
 
 pub to-tick-spec : {M : Type 1} → statement M
-to-tick-spec = tie.close (tie.spec reached-requires given-requires returns)
+to-tick-spec = tie.close (tie.spec moment-of-requires given-requires returns)

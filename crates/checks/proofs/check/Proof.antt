@@ -1,6 +1,6 @@
 -- `checks::check` meets its contract: its tests are the definition's, in its order.
 -- Assumes nothing.
-use mathlib.Core.Path.{_≡_, sym, _∙_}
+use mathlib.Core.Path.{sym, _∙_}
 use Rattle.checks.specs.Check.{verdictOf}
 use borrow.Author.Needs.{needs}
 use Rattle.checks.proofs.check.Statement.{statement}

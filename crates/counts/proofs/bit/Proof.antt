@@ -5,7 +5,6 @@ use Prim.Native.Nat.{ℕ, _/_, _^_, _<_, _≤_}
 use native.Mathlib.Nat.{div-eq-of-lt, lt-of-lt-of-le, pow-le-pow-right}
 use native.Mathlib.Omega.{arith}
 use borrow.Author.Needs.{needs}
-use Rattle.counts.specs.Bit.{bitOf}
 use Rattle.counts.proofs.bit.Statement.{statement}
 use Rattle.counts.proofs.bit.Tie as tie
 

@@ -1,7 +1,6 @@
 -- `exports::axis_write` meets its contract: it is the writer, over settings read from their fields.
 -- Assumes nothing.
-use mathlib.Core.Path.{ap, _∙_}
-use Rattle.answers.specs.declared.Answer.{Answer}
+use mathlib.Core.Path.{_∙_}
 use borrow.Author.Needs.{needs}
 use Rattle.exports.proofs.axis_write.Statement.{statement}
 use Rattle.exports.proofs.axis_write.Tie as tie
@@ -12,8 +11,8 @@ settings-in-requires c κs = tt
 write-requires : tie.Need-write-requires
 write-requires c κs = tt
 
-word-answer-requires : tie.Need-word-answer-requires
-word-answer-requires c κs = tt
+verdict-number-requires : tie.Need-verdict-number-requires
+verdict-number-requires c κs = tt
 
 same-length : tie.Need-same-length
 same-length c = search needs
@@ -23,9 +22,9 @@ returns c =
     let w = c .before .before .before in
     let e = w .write .ensures in
     let s = w .before .before .settings-in .ensures in
-    (ap (λ (a : Answer). a .number) (c .word-answer .ensures) ∙ rw (e .0, s), rw s at (e .1))
+    (c .verdict-number .ensures ∙ rw (e .0, s), rw s at (e .1))
 
 pub axis-write-spec : {M : Type 1} → statement M
 axis-write-spec =
     tie.close
-    (tie.spec settings-in-requires write-requires word-answer-requires same-length returns)
+    (tie.spec settings-in-requires write-requires verdict-number-requires same-length returns)

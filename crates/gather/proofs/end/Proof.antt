@@ -1,10 +1,10 @@
 -- `gather::end` meets its contract: the text is what the line holds, but for a CR.
 -- Assumes nothing.
 use Prim.Native.Nat.{_-_}
-use mathlib.Core.Path.{_≡_, sym, subst, _∙_}
+use mathlib.Core.Path.{sym, subst, _∙_}
 use native.Mathlib.Omega.{arith}
 use lib.ListN.{length}
-use Rattle.gather.specs.Lines.{fittingOf, Inside}
+use Rattle.gather.specs.Lines.{Inside}
 use Rattle.gather.proofs.Ends.{fitting-inside, over-long, none-held, cr-last, no-cr}
 use borrow.Author.Needs.{needs}
 use Rattle.gather.proofs.end.Statement.{statement}

@@ -1,16 +1,13 @@
 -- `gears::geared` meets its contract: the difference of two 32-bit numbers, times at most 2 ^ 20, fits 64 bits.
 -- Assumes nothing.
 use Prim.Native.Nat.{_+_, _^_, _≤_}
-use mathlib.Core.Path.{_≡_, _∙_, ap}
+use mathlib.Core.Path.{_≡_, _∙_}
 use native.Mathlib.Omega.{arith}
-use native.Mathlib.Nat.{min-le-right}
-use lib.IntN.{ℤ, pos, _-ℤ_, _*ℤ_}
-use lib.Signed.{mag}
+use lib.IntN.{pos, _-ℤ_, _*ℤ_}
 use mir.Facts.{toZ-ofZ}
 use mir.Syntax.{w32, w64}
 use mir.Val.{SFits, toZ}
-use Rattle.counts.specs.Divide.{floorDiv}
-use Rattle.counts.proofs.Integers.{wide, read-wide, read-unsigned, cast-fits, sub-fits, sub-read-fits, mag-sub, mag-mul}
+use Rattle.counts.proofs.Integers.{wide, read-wide, read-unsigned, cast-fits, sub-read-fits, mag-sub, mag-mul}
 use Rattle.gears.specs.Gear.{gearedOf}
 use borrow.Author.Needs.{needs}
 use Rattle.gears.proofs.geared.Statement.{statement}

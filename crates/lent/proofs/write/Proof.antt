@@ -1,6 +1,6 @@
 -- `lent::write` meets its contract: the part that is lent holds DEADBEEF, and comes back as it was written.
 -- Assumes nothing.
-use Prim.Native.Nat.{ℕ, _≤_, min}
+use Prim.Native.Nat.{ℕ}
 use mathlib.Core.List.{_++_}
 use mathlib.Core.Path.{_≡_, sym, ap, _∙_}
 use native.Mathlib.Omega.{arith}
@@ -34,8 +34,8 @@ slice-aggregate-write c =
 write-requires : tie.Need-write-requires
 write-requires c κs = search needs
 
-number-requires : tie.Need-number-requires
-number-requires c κs = search needs
+verdict-number-requires : tie.Need-verdict-number-requires
+verdict-number-requires c κs = search needs
 
 -- the part comes back as long as it was lent
 back : (c : tie.After-write) → length (c .write .last .1 .0) ≡ c .before .before .before .words-lent .result
@@ -64,7 +64,7 @@ returns c =
     let e : take n (c .before .before .before .before .before .before .before .before .before .unwritten .result) ≡ lentOf (c .before .before .before .before .before .before .before .before .before .before .before .before .before .args .writing) =
     ap (take n) (c .before .before .before .before .before .before .before .before .before .unwritten .ensures) ∙ first-words n 32 0xDEADBEEF (omega (arith, c .before .before .before .before .before .before .before .before .before .before .words-lent .ensures)) ∙ ap (λ k. replicate k 0xDEADBEEF) (c .before .before .before .before .before .before .before .before .before .before .words-lent .ensures) in
     printed-as
-    (ap (λ v. sheetText v (take n (c .before .before .before .before .before .before .before .write .last .1 .0 ++ drop n (c .before .before .before .before .before .before .before .before .before .unwritten .result)))) (c .before .before .before .before .number .ensures ∙ ap verdictNumber (c .before .before .before .before .before .before .before .write .ensures .0 ∙ ap (writeVerdict s) e))
+    (ap (λ v. sheetText v (take n (c .before .before .before .before .before .before .before .write .last .1 .0 ++ drop n (c .before .before .before .before .before .before .before .before .before .unwritten .result)))) (c .before .before .before .before .verdict-number .ensures ∙ ap verdictNumber (c .before .before .before .before .before .before .before .write .ensures .0 ∙ ap (writeVerdict s) e))
     ∙ ap (sheetText (verdictNumber (writeVerdict s (lentOf (c .before .before .before .before .before .before .before .before .before .before .before .before .before .args .writing))))) (given-back n (c .before .before .before .before .before .before .before .write .last .1 .0) (drop n (c .before .before .before .before .before .before .before .before .before .unwritten .result)) (back (c .before .before .before .before .before .before .before)) ∙ c .before .before .before .before .before .before .before .write .ensures .1 ∙ ap (written s) e))
     (c .before .before .sheet .ensures)
 
@@ -77,7 +77,7 @@ write-spec =
     array-borrow-prefix-buffer
     slice-aggregate-write
     write-requires
-    number-requires
+    verdict-number-requires
     array-share-prefix-buffer
     slice-aggregate-sheet
     sheet-requires

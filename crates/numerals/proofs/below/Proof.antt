@@ -1,6 +1,5 @@
 -- `numerals::below` meets its contract: the match and the test are the definition's.
 -- Assumes nothing.
-use mathlib.Core.Path.{_≡_, refl}
 use borrow.Author.Needs.{needs}
 use borrow.Author.Tests.{lt-ltb, le-ltb}
 use Rattle.numerals.proofs.below.Statement.{statement}

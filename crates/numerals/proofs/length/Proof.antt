@@ -1,6 +1,5 @@
 -- `numerals::length` meets its contract, by the two that it calls.
 -- Assumes nothing.
-use Prim.Native.Nat.{_^_}
 use mathlib.Core.Path.{ap, _∙_}
 use Rattle.numerals.specs.Limits.{belowOf}
 use borrow.Author.Needs.{needs}

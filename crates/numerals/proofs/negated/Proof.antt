@@ -7,7 +7,6 @@ use lib.IntN.{pos, negℤ, _-ℤ_, +ℤ-idl}
 use mir.Facts.{toZ-ofZ}
 use mir.Syntax.{w32, w64}
 use mir.Val.{SFits, toZ}
-use borrow.Author.Needs.{needs}
 use Rattle.counts.proofs.Integers.{read-unsigned, widen}
 use Rattle.numerals.proofs.Signs.{mag-minus}
 use Rattle.numerals.proofs.negated.Statement.{statement}

@@ -1,6 +1,5 @@
 -- `numerals::negative` meets its contract: the match and the test are the definition's.
 -- Assumes nothing.
-use mathlib.Core.Path.{_≡_}
 use native.Mathlib.Omega.{arith}
 use mir.Facts.{toZ-ofZ}
 use mir.Syntax.{w32}

@@ -1,7 +1,5 @@
 -- `numerals::positive` meets its contract: below 2 ^ 31 the number is an i32.
 -- Assumes nothing.
-use Prim.Native.Nat.{_^_, _<_}
-use mathlib.Core.Path.{_≡_, refl}
 use native.Mathlib.Omega.{arith}
 use mir.Syntax.{w32}
 use mir.ValLaws.{toZ-pos}

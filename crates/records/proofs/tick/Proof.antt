@@ -11,7 +11,7 @@ use Rattle.commands.specs.declared.Command.{Command}
 use Rattle.torque.specs.declared.LimitSet.{LimitSet}
 use Rattle.legs.specs.declared.events.Switches.{Switches}
 use Rattle.ticks.specs.declared.Tick.{Tick}
-use Rattle.records.specs.Words.{wordAt, signedAt, halfAt, switchesIn, setOf, commandIn, tickIn}
+use Rattle.records.specs.Words.{wordAt, signedAt, halfAt, switchesIn, set2If, commandIn, tickIn}
 use Rattle.records.proofs.Numbers.{read32}
 use Rattle.records.proofs.tick.Statement.{statement}
 use Rattle.records.proofs.tick.Tie as tie
@@ -45,7 +45,7 @@ word-requires c κs = tt
 
 -- its parts decide it
 built : (e : List ℕ) (f : List Float) {i h a : ℕ} {m : Command} {p : ℤ} {w : Switches} {b d : Bool} {l : LimitSet}
-    → i ≡ halfAt e 3 → h ≡ halfAt e 1 → m ≡ commandIn e f → p ≡ signedAt e 2 → w ≡ switchesIn i → b ≡ bitOf i 4 → d ≡ bitOf i 5 → l ≡ setOf d → a ≡ wordAt e 4
+    → i ≡ halfAt e 3 → h ≡ halfAt e 1 → m ≡ commandIn e f → p ≡ signedAt e 2 → w ≡ switchesIn i → b ≡ bitOf i 4 → d ≡ bitOf i 5 → l ≡ set2If d → a ≡ wordAt e 4
     → _≡_ {A = Tick} (record { control = h; command = m; position = p; switches = w; still = b; set = l; alarm = a }) (tickIn e f)
 unfolding tickIn
 built e f i h m p w b d l a = rw (h, m, p, w, b, l, d, a, i)

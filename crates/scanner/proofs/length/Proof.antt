@@ -1,6 +1,6 @@
 -- `scanner::length` meets its contract.
 -- Assumes nothing.
-use Prim.Native.Nat.{_^_, _<_}
+use Prim.Native.Nat.{_<_}
 use mathlib.Core.Path.{sym, subst}
 use native.Mathlib.Omega.{arith}
 use Rattle.numerals.specs.Limits.{lengthOf}

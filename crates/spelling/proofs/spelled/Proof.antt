@@ -1,17 +1,15 @@
 -- `spelling::spelled` meets its contract: what the text spells is what the rest of it spells after the value so far.
 -- Assumes nothing.
 use Prim.Native.Nat.{suc, _+_, _-_, _*_, _^_, _≤_, _<_}
-use mathlib.Core.Bool.{true}
 use mathlib.Core.Path.{_≡_, refl, sym, ap, subst, _∙_}
 use native.Mathlib.Nat.{le-trans, pow-le-pow-left, pow-le-pow-right}
 use native.Mathlib.Numerals.{add-one}
 use native.Mathlib.Omega.{arith}
 use borrow.Author.Needs.{needs}
-use borrow.Author.Tests.{lt-ltb, le-ltb, le-leb, lt-leb}
-use lib.Dec.{ltb}
-use lib.ListN.{length, drop, getD}
+use borrow.Author.Tests.{lt-ltb, le-ltb}
+use lib.ListN.{length, drop}
 use lib.Seq.{drop-length}
-use Rattle.spelling.specs.Spelling.{digitOf, spelledFrom, spelledOf}
+use Rattle.spelling.specs.Spelling.{spelledFrom}
 use Rattle.spelling.proofs.Reach.{further, stops, nothing, reach, within, no-digits, many-digits}
 use Rattle.spelling.proofs.spelled.Statement.{statement}
 use Rattle.spelling.proofs.spelled.Tie as tie

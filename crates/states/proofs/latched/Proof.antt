@@ -1,21 +1,21 @@
 -- `states::latched` meets its contract: its two tests are the definition's.
 -- Assumes nothing.
 use mathlib.Core.Path.{_≡_, sym, _∙_}
-use mathlib.Core.Bool.{Bool, not, _&&_}
+use mathlib.Core.Bool.{not, _&&_}
 use borrow.Author.Needs.{needs}
 use Rattle.states.specs.declared.State.the-variants.{Fault}
 use Rattle.states.specs.States.{is}
 use Rattle.states.proofs.latched.Statement.{statement}
 use Rattle.states.proofs.latched.Tie as tie
 
-entered-fault-requires : tie.Need-entered-fault-requires
-entered-fault-requires c κs = search needs
+entered-reaction-requires : tie.Need-entered-reaction-requires
+entered-reaction-requires c κs = search needs
 
 alarm-number-requires : tie.Need-alarm-number-requires
 alarm-number-requires c κs = search needs
 
 returns : tie.Need-returns
-returns c = rw (c .alarm-number .ensures, sym (c .before .before .entered-fault .ensures) ∙ c .before .if1 .taken)
+returns c = rw (c .alarm-number .ensures, sym (c .before .before .entered-reaction .ensures) ∙ c .before .if1 .taken)
 
 in-state-requires : tie.Need-in-state-requires
 in-state-requires c κs = search needs
@@ -33,19 +33,19 @@ returns-2 : tie.Need-returns-2
 returns-2 c =
     let a = c .before in
     let e = a .before .before in
-    rw (sym (e .before .entered-fault .ensures) ∙ e .if1 .left, leaves a ∙ c .if2 .taken)
+    rw (sym (e .before .entered-reaction .ensures) ∙ e .if1 .left, leaves a ∙ c .if2 .taken)
 
 returns-3 : tie.Need-returns-3
 returns-3 c =
     let a = c .before in
     let e = a .before .before in
-    rw (sym (e .before .entered-fault .ensures) ∙ e .if1 .left, leaves a ∙ c .if2 .left)
+    rw (sym (e .before .entered-reaction .ensures) ∙ e .if1 .left, leaves a ∙ c .if2 .left)
 
 pub latched-spec : {M : Type 1} → statement M
 latched-spec =
     tie.close
     (tie.spec
-    entered-fault-requires
+    entered-reaction-requires
     alarm-number-requires
     returns
     in-state-requires

@@ -1,7 +1,7 @@
 -- `torque::bounds_of` meets its contract: a cap is at most 3000, so it and its negation fit.
 -- Assumes nothing.
 use Prim.Native.Nat.{ℕ, _^_, _≤_, _<_}
-use mathlib.Core.Path.{_≡_, _∙_}
+use mathlib.Core.Path.{_≡_}
 use native.Mathlib.Omega.{arith}
 use lib.IntN.{pos, negℤ, +ℤ-idl}
 use mir.Facts.{toZ-ofZ}

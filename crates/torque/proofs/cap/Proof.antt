@@ -6,11 +6,11 @@ use borrow.Author.Needs.{needs}
 use Rattle.torque.proofs.cap.Statement.{statement}
 use Rattle.torque.proofs.cap.Tie as tie
 
-least-requires : tie.Need-least-requires
-least-requires c κs = search needs
+at-most-3000-requires : tie.Need-at-most-3000-requires
+at-most-3000-requires c κs = search needs
 
-least-requires-2 : tie.Need-least-requires-2
-least-requires-2 c κs = search needs
+at-most-3000-requires-2 : tie.Need-at-most-3000-requires-2
+at-most-3000-requires-2 c κs = search needs
 
 returns : tie.Need-returns
 unfolding capOf
@@ -21,4 +21,4 @@ unfolding capOf
 returns-2 c = omega arith
 
 pub cap-spec : {M : Type 1} → statement M
-cap-spec = tie.close (tie.spec least-requires least-requires-2 returns returns-2)
+cap-spec = tie.close (tie.spec at-most-3000-requires at-most-3000-requires-2 returns returns-2)

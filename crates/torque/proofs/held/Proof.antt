@@ -1,6 +1,5 @@
 -- `torque::held` meets its contract: a 16-bit request keeps its value in 32 bits.
 -- Assumes nothing.
-use mathlib.Core.Path.{_≡_}
 use native.Mathlib.Omega.{arith}
 use lib.IntN.{ℤ}
 use mir.Facts.{toZ-ofZ}

@@ -1,6 +1,6 @@
 -- `reader::Pending::read` meets its contract: its tests are the definition's, in its order.
 -- Assumes nothing.
-use mathlib.Core.Path.{sym, _∙_}
+use mathlib.Core.Path.{_∙_}
 use borrow.Author.Tests.{eq-eqb, ne-eqb}
 use Rattle.reader.specs.Read.{readOf}
 use Rattle.reader.proofs.Steps.{in-sequence, due-below}

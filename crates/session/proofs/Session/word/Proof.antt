@@ -12,8 +12,8 @@ use Rattle.session.proofs.Session.word.Tie as tie
 word-requires : tie.Need-word-requires
 word-requires c κs = search needs
 
-number-requires : tie.Need-number-requires
-number-requires c κs = search needs
+verdict-number-requires : tie.Need-verdict-number-requires
+verdict-number-requires c κs = search needs
 
 word-requires-2 : tie.Need-word-requires-2
 word-requires-2 c κs = search needs
@@ -28,10 +28,10 @@ returns : tie.Need-returns
 returns c =
     let e = c .before .before .before .before .before .before .before .word .ensures in (
       c .with .ensures ∙ ap (λ w. withAxis (c .before .before .before .before .before .before .before .before .before .before .args .self) (w .axis)) e,
-      printed-as (ap wordText (c .before .before .before .before .number .ensures ∙ ap (λ w. verdictNumber (w .verdict)) e)) (c .before .before .before .word2 .ensures),
+      printed-as (ap wordText (c .before .before .before .before .verdict-number .ensures ∙ ap (λ w. verdictNumber (w .verdict)) e)) (c .before .before .before .word2 .ensures),
     )
 
 pub word-spec : {M : Type 1} → statement M
 word-spec =
     tie.close
-    (tie.spec word-requires number-requires word-requires-2 with-requires same-length returns)
+    (tie.spec word-requires verdict-number-requires word-requires-2 with-requires same-length returns)

@@ -2,8 +2,8 @@
 -- Assumes nothing.
 use mir.Syntax.{w32}
 use mir.Val.{Fits}
-use Prim.Native.Nat.{_≤_, _<_, _+_, _-_, _*_, _^_}
-use mathlib.Core.Path.{_≡_, refl, ap, _∙_}
+use Prim.Native.Nat.{_≤_, _-_, _*_, _^_}
+use mathlib.Core.Path.{_≡_, refl}
 use native.Mathlib.Numerals.{add-one}
 use native.Mathlib.Omega.{arith}
 use borrow.Author.Needs.{needs}

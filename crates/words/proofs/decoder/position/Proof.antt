@@ -1,6 +1,6 @@
 -- `words::decoder::position` meets its contract: from 2 ^ 27 on, 2 ^ 28 less.
 -- Assumes nothing.
-use mathlib.Core.Path.{_≡_, sym, _∙_}
+use mathlib.Core.Path.{sym, _∙_}
 use Prim.Native.Nat.{_%_, _^_}
 use native.Mathlib.Omega.{arith}
 use borrow.Author.Tests.{lt-ltb}

@@ -1,6 +1,6 @@
--- `reached` meets its contract: each call gives its value by its rule.
+-- `moment_of` meets its contract: each call gives its value by its rule.
 -- Assumes nothing.
-use mathlib.Core.Path.{_≡_, ap₂, _∙_}
+use mathlib.Core.Path.{ap₂, _∙_}
 use mathlib.Core.Bool.{_&&_}
 use lib.IntN.{ℤ}
 use mir.Facts.{toZ-ofZ}
@@ -9,8 +9,8 @@ use mir.Val.{SFits}
 use Rattle.ticks.specs.Moment.{homeAfter}
 use Rattle.ticks.proofs.Assembly.{assembled}
 use borrow.Author.Needs.{needs}
-use Rattle.ticks.proofs.reached.Statement.{statement}
-use Rattle.ticks.proofs.reached.Tie as tie
+use Rattle.ticks.proofs.moment_of.Statement.{statement}
+use Rattle.ticks.proofs.moment_of.Tie as tie
 
 mode-requires : tie.Need-mode-requires
 mode-requires c κs = search needs
@@ -88,8 +88,8 @@ returns c =
     (toZ-ofZ now)
     (c .command-target .ensures)
 
-pub reached-spec : {M : Type 1} → statement M
-reached-spec =
+pub moment-of-spec : {M : Type 1} → statement M
+moment-of-spec =
     tie.close
     (tie.spec
     mode-requires

@@ -1,0 +1,58 @@
+-- `console::reply` meets its contract: a text lies in its line, and an answer on its page.
+-- Assumes nothing.
+use mathlib.Core.Path.{sym, subst}
+use lib.ListN.{length}
+use lib.Seq.{length-take-le}
+use Rattle.gather.specs.Lines.{Inside}
+use Rattle.console.proofs.Pages.{on-page}
+use borrow.Author.Needs.{needs}
+use Rattle.console.proofs.reply.Statement.{statement}
+use Rattle.console.proofs.reply.Tie as tie
+
+end-requires : tie.Need-end-requires
+end-requires c κs = search needs
+
+enum-known-n : tie.Need-enum-known-n
+enum-known-n c = search needs
+
+slice-aggregate-line : tie.Need-slice-aggregate-line
+slice-aggregate-line c =
+    let n = c .before .before .n .given in
+    let line = c .before .before .before .before .before .before .before .args .line .now in
+    sym (length-take-le (n .0 .0) line (subst (λ r. Inside r (length line)) (n .1) (c .before .before .before .before .end .ensures .0)))
+
+line-requires : tie.Need-line-requires
+line-requires c κs = search needs
+
+enum-told : tie.Need-enum-told
+enum-told c = search needs
+
+long-line-requires : tie.Need-long-line-requires
+long-line-requires c κs = search needs
+
+same-length : tie.Need-same-length
+same-length c = search needs
+
+returns : tie.Need-returns
+returns c = on-page (c .before .before .line .ensures .1)
+
+same-length-2 : tie.Need-same-length-2
+same-length-2 c = search needs
+
+returns-2 : tie.Need-returns-2
+returns-2 c = on-page (c .before .before .long-line .ensures .1)
+
+pub reply-spec : {M : Type 1} → statement M
+reply-spec =
+    tie.close
+    (tie.spec
+    end-requires
+    enum-known-n
+    slice-aggregate-line
+    line-requires
+    enum-told
+    long-line-requires
+    same-length
+    returns
+    same-length-2
+    returns-2)
