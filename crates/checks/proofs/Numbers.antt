@@ -1,5 +1,4 @@
--- For each number that `check` gives: it is given if and only if its case holds and no earlier test's does. And it accepts exactly the
--- acceptable.
+-- `check` gives the number of the first case that holds, and accepts exactly the acceptable.
 -- Assumes nothing.
 use Prim.Native.Nat.{ℕ}
 use mathlib.Core.Path.{_≡_, refl}
@@ -10,15 +9,14 @@ use Rattle.settings.specs.declared.Settings.{Settings}
 use Rattle.settings.specs.declared.Refusal.{Refusal}
 use Rattle.settings.specs.declared.Refusal.the-variants.{OutOfRange, LimitsCrossed, OutOfReach}
 use Rattle.settings.specs.declared.Verdict.the-variants.{Accepted, Refused}
-use Rattle.settings.specs.Refusal.{verdictNumber}
+use Rattle.settings.specs.Refusal.{verdictNumber, firstOf}
 use Rattle.settings.specs.Ranges.{inRange}
 use Rattle.gears.specs.Gear.{inReach}
 use Rattle.checks.specs.Check.{limitsApart, acceptable, limitsVerdict, verdictOf}
-use Rattle.checks.specs.Cases.{outOfRange, limitsCrossed, outOfReach}
-use Rattle.checks.proofs.First.{hit, skip, miss}
+use Rattle.checks.specs.Cases.{limitTests, Numbers}
 
 -- tests 5 and 6
-pub limits-number : (s : Settings) → verdictNumber (limitsVerdict s) ≡ cond (limitsCrossed s) 5 (cond (outOfReach s) 6 0)
+pub limits-number : (s : Settings) → verdictNumber (limitsVerdict s) ≡ firstOf (limitTests s)
 unfolding limitsVerdict
 limits-number s = go (limitsApart s) (inReach s)
   where
@@ -28,29 +26,13 @@ limits-number s = go (limitsApart s) (inReach s)
     go false b = refl
 
 -- tests 3, 5 and 6
-pub check-number : (s : Settings) → verdictNumber (verdictOf s) ≡ cond (outOfRange s) 3 (cond (limitsCrossed s) 5 (cond (outOfReach s) 6 0))
+pub check-number : Numbers
 unfolding verdictOf
 check-number s = go (inRange s)
   where
-    go : (a : Bool) → verdictNumber (cond a (limitsVerdict s) (Refused OutOfRange)) ≡ cond (not a) 3 (cond (limitsCrossed s) 5 (cond (outOfReach s) 6 0))
+    go : (a : Bool) → verdictNumber (cond a (limitsVerdict s) (Refused OutOfRange)) ≡ cond (not a) 3 (firstOf (limitTests s))
     go true = limits-number s
     go false = refl
-
-module _ (s : Settings) where
-  given-3 : (verdictNumber (verdictOf s) ≡ 3) ↔ (outOfRange s ≡ true)
-  given-3 =
-      rw (check-number s)
-      (hit (outOfRange s) 3 _ (miss (limitsCrossed s) 5 3 _ (λ e. omega arith) (miss (outOfReach s) 6 3 0 (λ e. omega arith) (λ e. omega arith))))
-
-  given-5 : (verdictNumber (verdictOf s) ≡ 5) ↔ ((outOfRange s ≡ false) × (limitsCrossed s ≡ true))
-  given-5 =
-      rw (check-number s)
-      (skip (outOfRange s) 3 5 _ (λ e. omega arith) (hit (limitsCrossed s) 5 _ (miss (outOfReach s) 6 5 0 (λ e. omega arith) (λ e. omega arith))))
-
-  given-6 : (verdictNumber (verdictOf s) ≡ 6) ↔ ((outOfRange s ≡ false) × ((limitsCrossed s ≡ false) × (outOfReach s ≡ true)))
-  given-6 =
-      rw (check-number s)
-      (skip (outOfRange s) 3 6 _ (λ e. omega arith) (skip (limitsCrossed s) 5 6 _ (λ e. omega arith) (hit (outOfReach s) 6 0 (λ e. omega arith))))
 
 -- accepted, and only then
 refused-accepted : {X : Type 0} (r : Refusal) → Refused r ≡ Accepted → X

@@ -3,3 +3,4 @@ pub mod Matches
 pub mod Kept
 pub mod Promised
 pub mod Whole
+pub mod Numbers

@@ -7,9 +7,8 @@ use mathlib.Core.List.{List, [], _∷_, _++_, nil≢cons, head-eq-of-cons-eq, ta
 use native.Mathlib.Omega.{arith}
 use lib.ListN.{length}
 use Rattle.settings.specs.declared.Settings.{Settings}
-use Rattle.settings.specs.declared.Refusal.the-variants.{DriveActive}
 use Rattle.settings.specs.declared.Verdict.the-variants as verdict
-use Rattle.settings.specs.Refusal.{numberOf}
+use Rattle.settings.specs.Refusal.{verdictNumber}
 use Rattle.checks.proofs.Numbers.{passes}
 use Rattle.words.specs.Word.{kindOf, wordOf as wordBy}
 use Rattle.words.specs.Encode.{valuesOf, checksumOf, wordsFrom, wordsOf}
@@ -19,7 +18,6 @@ use Rattle.reader.specs.declared.Reading.{Reading}
 use Rattle.reader.specs.declared.Outcome.{Outcome}
 use Rattle.reader.specs.declared.Outcome.the-variants.{Refused, Stored, Complete}
 use Rattle.reader.specs.Read.{emptyPending, readOf, outcomeNumber}
-use Rattle.reader.proofs.Numbers.{never-7}
 use Rattle.reader.proofs.Accepted.{AcceptedBy, ReadBy, refuses, accepted, begins, keeps, closes, read-by, accepted-by}
 use Rattle.states.specs.States.{liveOf}
 use Rattle.roundtrip.specs.ReadInto.{ReadInto, last, more}
@@ -36,7 +34,7 @@ use Rattle.axis.specs.Tick.{tickUnder, tickOf}
 use Rattle.answers.specs.Answer.{answerIn, answeredIn}
 use Rattle.demands.specs.Events.{Event, word, tick}
 use Rattle.demands.specs.Replies.{leftBy, axisFrom, repliesFrom}
-use Rattle.demands.specs.Whole.{Unseen, RefusedWords, RefusedTick, RefusedTicks, wordsIn, AllAccepted, activated, RoundTrip, EndsLive, Given7, Given8}
+use Rattle.demands.specs.Whole.{Unseen, RefusedWords, RefusedTick, RefusedTicks, wordsIn, AllAccepted, activated, RoundTrip}
 
 -- ---- a refused word
 
@@ -68,27 +66,25 @@ unseen-from a p (t ∷ ts) =
 
 pub refused-word : RefusedWords
 unfolding wordOf
-refused-word a w r e = record { left = left; unseen = λ ts. rw left (unseen-from a emptyPending ts) }
+refused-word a w n = record { left = left; unseen = λ ts. rw left (unseen-from a emptyPending ts) }
   where
-    not-accepted : {X : Type 0} → verdict.Accepted ≡ verdict.Refused r → X
-    not-accepted q = let z : _≡_ {A = ℕ} 0 1 = cc in absurd (omega arith)
+    b : Axis
+    b = withPending a (readOf (a .pending) w .pending)
 
     not-stored : readOf (a .pending) w .outcome ≡ Stored → ⊥
-    not-stored s = not-accepted (subst (λ (o : Outcome). taken (withPending a (readOf (a .pending) w .pending)) o .verdict ≡ verdict.Refused r) s e)
+    not-stored s = n (ap (λ (o : Outcome). verdictNumber (taken b o .verdict)) s)
 
-    kept : (b : Axis) (o : Outcome) → taken b o .verdict ≡ verdict.Refused r → taken b o .axis ≡ b
-    kept b (Refused x) q = refl
-    kept b Stored q = refl
-    kept b (Complete s) q = go (liveOf (b .motion .state)) refl
+    kept : (o : Outcome) → (verdictNumber (taken b o .verdict) ≡ 0 → ⊥) → taken b o .axis ≡ b
+    kept (Refused x) q = refl
+    kept Stored q = refl
+    kept (Complete s) q = go (liveOf (a .motion .state)) refl
       where
-        go : (l : Bool) → liveOf (b .motion .state) ≡ l → taken b (Complete s) .axis ≡ b
+        go : (l : Bool) → liveOf (a .motion .state) ≡ l → taken b (Complete s) .axis ≡ b
         go true h = rw h
-        go false h = not-accepted (rw h at q)
+        go false h = absurd (q (rw h))
 
     left : wordOf a w .axis ≡ withPending a emptyPending
-    left =
-        kept (withPending a (readOf (a .pending) w .pending)) (readOf (a .pending) w .outcome) e
-        ∙ ap (λ (p : Pending). withPending a p) (left-empty (a .pending) w not-stored)
+    left = kept (readOf (a .pending) w .outcome) n ∙ ap (λ (p : Pending). withPending a p) (left-empty (a .pending) w not-stored)
 
 -- ---- a refused tick
 
@@ -158,7 +154,7 @@ fed a (word w ∷ es) h =
     subst
     (λ (o : Outcome).
     (axisFrom (taken b o .axis) es .pending ≡ pendingFrom (a .pending) (w ∷ wordsIn es))
-    × ((taken b o .verdict ≡ verdict.Accepted) × AllAccepted (repliesFrom (taken b o .axis) es)))
+    × ((verdictNumber (taken b o .verdict) ≡ 0) × AllAccepted (repliesFrom (taken b o .axis) es)))
     (sym (h .0))
     (t .0, (refl, t .1))
 fed a (tick t ∷ es) h =
@@ -170,7 +166,7 @@ axis-append : (a : Axis) (es fs : List Event) → axisFrom a (es ++ fs) ≡ axis
 axis-append a [] fs = refl
 axis-append a (e ∷ es) fs = axis-append (leftBy a e) es fs
 
-accepted-append : (a : Axis) (es : List Event) (w : ℕ) → AllAccepted (repliesFrom a es) → wordOf (axisFrom a es) w .verdict ≡ verdict.Accepted
+accepted-append : (a : Axis) (es : List Event) (w : ℕ) → AllAccepted (repliesFrom a es) → verdictNumber (wordOf (axisFrom a es) w .verdict) ≡ 0
     → AllAccepted (repliesFrom a (es ++ word w ∷ []))
 accepted-append a [] w h e = (e, tt)
 accepted-append a (word v ∷ es) w h e = (h .0, accepted-append (wordOf a v .axis) es w (h .1) e)
@@ -189,43 +185,9 @@ activates a s es w ok e idle =
     let p : readOf (b .pending) w .pending ≡ emptyPending = left-empty (b .pending) w (λ q. unstored (sym o ∙ q)) in
     let t : wordOf b w ≡ record { axis = activated s (withPending b emptyPending); verdict = verdict.Accepted } = rw (o, p, idle) in
     record {
-      accepted = accepted-append a es w (f .1) (ap (λ (x : Worded). x .verdict) t);
+      accepted = accepted-append a es w (f .1) (ap (λ (x : Worded). verdictNumber (x .verdict)) t);
       left = axis-append a es (word w ∷ []) ∙ ap (λ (x : Worded). x .axis) t;
     }
   where
     unstored : Complete s ≡ Stored → ⊥
     unstored q = let z : _≡_ {A = ℕ} 0 1 = cc in omega arith
-
--- ---- 7 and 8 in their cases, and in no other
-
-pub given-7 : Given7
-unfolding wordOf
-given-7 a w = (there-is, λ e. rw (e .closes, e .live))
-  where
-    b : Axis
-    b = withPending a (readOf (a .pending) w .pending)
-
-    not-accepted : {X : Type 0} → verdict.Accepted ≡ verdict.Refused DriveActive → X
-    not-accepted q = let z : _≡_ {A = ℕ} 0 1 = cc in absurd (omega arith)
-
-    go : (o : Outcome) → readOf (a .pending) w .outcome ≡ o → taken b o .verdict ≡ verdict.Refused DriveActive → EndsLive a w
-    go (Refused r) e q =
-        let n : r ≡ DriveActive = cc in
-        absurd (never-7 (a .pending) w (ap outcomeNumber e ∙ ap numberOf n))
-    go Stored e q = not-accepted q
-    go (Complete s) e q = live (liveOf (a .motion .state)) refl
-      where
-        live : (l : Bool) → liveOf (a .motion .state) ≡ l → EndsLive a w
-        live true h = record { settings = s; closes = e; live = h }
-        live false h = not-accepted (rw h at q)
-
-    there-is : wordOf a w .verdict ≡ verdict.Refused DriveActive → EndsLive a w
-    there-is q = go (readOf (a .pending) w .outcome) refl q
-
-pub given-8 : Given8
-unfolding tickOf answeredIn answerIn
-given-8 a t = (λ q. go (a .active) refl q, λ e. rw e)
-  where
-    go : (x : Active) → a .active ≡ x → tickUnder x a t .answer .number ≡ 8 → a .active ≡ Nothing
-    go Nothing e q = e
-    go (Set s) e q = absurd (omega arith)

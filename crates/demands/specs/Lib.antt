@@ -5,3 +5,4 @@ pub mod Known
 pub mod Demand
 pub mod Whole
 pub mod Examples
+pub mod Numbers

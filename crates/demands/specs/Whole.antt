@@ -5,19 +5,16 @@ use Prim.Native.Nat.{ℕ}
 use mathlib.Core.Path.{_≡_}
 use mathlib.Core.Bool.{true, false}
 use mathlib.Core.List.{List, [], _∷_, _++_, map}
-use mathlib.Core.Logic.{_↔_}
 use Rattle.settings.specs.declared.Settings.{Settings}
-use Rattle.settings.specs.declared.Refusal.{Refusal}
-use Rattle.settings.specs.declared.Refusal.the-variants.{DriveActive, NoSettings}
-use Rattle.settings.specs.declared.Verdict.the-variants.{Accepted, Refused}
+use Rattle.settings.specs.declared.Refusal.the-variants.{NoSettings}
+use Rattle.settings.specs.Refusal.{verdictNumber}
 use Rattle.checks.specs.Check.{acceptable}
 use Rattle.words.specs.Encode.{wordsOf}
 use Rattle.reader.specs.declared.Pending.{Pending}
-use Rattle.reader.specs.declared.Outcome.the-variants.{Complete}
-use Rattle.reader.specs.Read.{emptyPending, readOf}
+use Rattle.reader.specs.Read.{emptyPending}
 use Rattle.states.specs.States.{liveOf}
 use Rattle.motion.specs.Motion.{idled}
-use Rattle.takeover.specs.declared.Active.the-variants.{Nothing, Set}
+use Rattle.takeover.specs.declared.Active.the-variants.{Set}
 use Rattle.axis.specs.declared.Axis.{Axis}
 use Rattle.ticks.specs.declared.Tick.{Tick}
 use Rattle.answers.specs.Answer.{refusedAnswer}
@@ -36,7 +33,7 @@ pub record RefusedWord (a : Axis) (w : ℕ) : Type 0 where
   pub unseen : (ts : List Tick) → repliesFrom (wordOf a w .axis) (map tick ts) ≡ repliesFrom a (map tick ts)
 
 abbrev pub RefusedWords : Type 0
-RefusedWords = (a : Axis) (w : ℕ) (r : Refusal) → wordOf a w .verdict ≡ Refused r → RefusedWord a w
+RefusedWords = (a : Axis) (w : ℕ) → (verdictNumber (wordOf a w .verdict) ≡ 0 → ⊥) → RefusedWord a w
 
 -- "a refused tick changes nothing and commands zero torque": number 8, and every other field of the answer is 0
 pub record RefusedTick (a : Axis) (t : Tick) : Type 0 where
@@ -55,7 +52,7 @@ wordsIn (tick t ∷ es) = wordsIn es
 -- every word is answered 0
 abbrev pub AllAccepted : List Reply → Type 0
 AllAccepted [] = Unit {0}
-AllAccepted (said v ∷ rs) = (v ≡ Accepted) × AllAccepted rs
+AllAccepted (said v ∷ rs) = (verdictNumber v ≡ 0) × AllAccepted rs
 AllAccepted (answered a ∷ rs) = AllAccepted rs
 
 -- "all its fields come into force together, homed and homing error are cleared, homing is idle"
@@ -78,16 +75,3 @@ abbrev pub RoundTrip : Type 0
 RoundTrip =
     (a : Axis) (s : Settings) (es : List Event) (w : ℕ) → acceptable s ≡ true → wordsIn es ++ w ∷ [] ≡ wordsOf s
     → liveOf (axisFrom a es .motion .state) ≡ false → Activates a s es w
-
--- 7: "end word while Operation enabled or Quick stop active": the word closes settings and the drive is live
-pub record EndsLive (a : Axis) (w : ℕ) : Type 0 where
-  pub settings : Settings
-  pub closes : readOf (a .pending) w .outcome ≡ Complete settings
-  pub live : liveOf (a .motion .state) ≡ true
-
--- "A number is given in its case and in no other": the axis's own, 7 and 8
-abbrev pub Given7 : Type 0
-Given7 = (a : Axis) (w : ℕ) → (wordOf a w .verdict ≡ Refused DriveActive) ↔ EndsLive a w
-
-abbrev pub Given8 : Type 0
-Given8 = (a : Axis) (t : Tick) → (tickOf a t .answer .number ≡ 8) ↔ (a .active ≡ Nothing)

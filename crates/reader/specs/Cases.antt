@@ -1,15 +1,18 @@
--- The cases in which a word is refused, each as 01's table has it. A number is given in its case where no earlier test's case holds
--- (`proofs/Numbers.antt`).
+-- The cases in which a word is refused, each as 01's table has it, and the order of their tests; 1 is in `Read.antt`.
 -- Assumes nothing.
 use Prim.Native.Nat.{ℕ}
 use mathlib.Core.Bool.{Bool, not, _&&_}
+use mathlib.Core.List.{List, [], _∷_}
+use mathlib.Core.Path.{_≡_}
 use lib.Dec.{eqb}
+use Rattle.settings.specs.Refusal.{Test, test, firstOf}
 use Rattle.checks.specs.Cases as checks
 use Rattle.words.specs.Word.{kindOf, dataOf}
 use Rattle.words.specs.Encode.{checksumOf}
 use Rattle.words.specs.Decode.{settingsOf}
 use Rattle.reader.specs.declared.Pending.{Pending}
 use Rattle.kinds.specs.Fields.{fieldOk}
+use Rattle.reader.specs.Read.{outOfSequence, readOf, outcomeNumber}
 
 abbrev pub isStart : ℕ → Bool
 isStart w = eqb (kindOf w) 0
@@ -35,3 +38,17 @@ limitsCrossed p w = isEnd w && checks.limitsCrossed (settingsOf (p .values))
 
 abbrev pub outOfReach : Pending → ℕ → Bool
 outOfReach p w = isEnd w && checks.outOfReach (settingsOf (p .values))
+
+-- "An end word is tested 1, 4, 5, 6, 7; other words 1, then 2 or 3"; 7 is the axis's
+abbrev pub testsOf : Pending → ℕ → List Test
+testsOf p w =
+    test (outOfSequence p w) 1
+    ∷ test (unknownLayout w) 2
+    ∷ test (outOfRange w) 3
+    ∷ test (checksumMismatch p w) 4
+    ∷ test (limitsCrossed p w) 5
+    ∷ test (outOfReach p w) 6
+    ∷ []
+
+abbrev pub Numbers : Type 0
+Numbers = (p : Pending) (w : ℕ) → outcomeNumber (readOf p w .outcome) ≡ firstOf (testsOf p w)

@@ -1,6 +1,8 @@
 -- 01, "Refused words, ticks and buffers": the number of each refusal, with the trade word that 01 has for it.
 -- Assumes nothing.
 use Prim.Native.Nat.{ℕ}
+use mathlib.Core.Bool.{Bool, cond}
+use mathlib.Core.List.{List, [], _∷_}
 use Rattle.settings.specs.declared.Refusal.{Refusal}
 use Rattle.settings.specs.declared.Refusal.the-variants.{OutOfSequence, UnknownLayout, OutOfRange, ChecksumMismatch, LimitsCrossed, OutOfReach, DriveActive, NoSettings, BufferTooShort}
 use Rattle.settings.specs.declared.Verdict.{Verdict}
@@ -21,3 +23,16 @@ numberOf BufferTooShort = 9  -- short buffer
 abbrev pub verdictNumber : Verdict → ℕ
 verdictNumber Accepted = 0
 verdictNumber (Refused r) = numberOf r
+
+-- a row of the table: whether its case holds, and its number
+pub record Test : Type 0 where
+  pub holds : Bool
+  pub number : ℕ
+
+abbrev pub test : Bool → ℕ → Test
+test holds number = record { holds = holds; number = number }
+
+-- "A number is given in its case and in no other", tested in order: the first case that holds gives its number, and 0 stands for none
+abbrev pub firstOf : List Test → ℕ
+firstOf [] = 0
+firstOf (t ∷ ts) = cond (t .holds) (t .number) (firstOf ts)

@@ -1,7 +1,7 @@
 -- 01: the writer. "The writer fills 15 words and keeps the rest of a longer buffer"; refused, it leaves the buffer untouched.
 -- Assumes nothing.
 use Prim.Native.Nat.{ℕ}
-use mathlib.Core.Bool.{cond}
+use mathlib.Core.Bool.{Bool, cond}
 use mathlib.Core.List.{List, _++_}
 use lib.Dec.{ltb}
 use lib.ListN.{length, drop}
@@ -12,9 +12,12 @@ use Rattle.settings.specs.declared.Verdict.the-variants.{Accepted, Refused}
 use Rattle.checks.specs.Check.{verdictOf}
 use Rattle.words.specs.Encode.{wordsOf}
 
--- "the writer 9, 3, 5, 6"
+-- 9: "writer lent fewer than 15 words"
+abbrev pub bufferTooShort : List ℕ → Bool
+bufferTooShort buffer = ltb (length buffer) 15
+
 unfoldable pub writeVerdict : Settings → List ℕ → Verdict
-writeVerdict s buffer = cond (ltb (length buffer) 15) (Refused BufferTooShort) (verdictOf s)
+writeVerdict s buffer = cond (bufferTooShort buffer) (Refused BufferTooShort) (verdictOf s)
 
 -- what the buffer holds after a verdict
 abbrev pub leftBy : Verdict → Settings → List ℕ → List ℕ

@@ -1,6 +1,5 @@
 -- `exports::word_answer` meets its contract.
 -- Assumes nothing.
-use borrow.Author.Needs.{needs}
 use Rattle.exports.proofs.word_answer.Statement.{statement}
 use Rattle.exports.proofs.word_answer.Tie as tie
 
