@@ -103,7 +103,7 @@ fn settle(state: State, alarm: bool, reset: bool, quiet: State) -> State
     }
 }
 
-// The state after a tick with this control word, after the word before it.
+// The state after a tick: control is its control word, before the remembered one; alarm has what the command adds to it.
 pub fn next(state: State, control: u16, before: u16, still: bool, option: u32, alarm: u32) -> State
     ensures { λ r. ⌜ r ≡ nextOf state control before still option alarm ⌝ }
 {

@@ -14,15 +14,15 @@ abbrev pub All : (View → Type 0) → List View → Type 0
 All P [] = Unit
 All P (v ∷ vs) = P v × All P vs
 
--- the ticks are cut into a segment, whose last tick satisfies Ends and whose others satisfy Waits, and a rest that satisfies Then
-pub record Cut (Waits Ends : View → Type 0) (Then : List View → Type 0) (vs : List View) : Type 0 where
+-- the ticks are cut into a segment, whose last tick satisfies Last and whose others satisfy Before, and a rest that satisfies After
+pub record Cut (Before Last : View → Type 0) (After : List View → Type 0) (vs : List View) : Type 0 where
   pub waiting : List View
   pub end : View
   pub rest : List View
   pub cut : vs ≡ waiting ++ end ∷ rest
-  pub waits : All Waits waiting
-  pub ends : Ends end
-  pub then : Then rest
+  pub waits : All Before waiting
+  pub ends : Last end
+  pub then : After rest
 
 -- a tick of leg l's segment before its end: it does not idle homing, the leg's event does not count, and no limit rise counts, which
 -- would set the error or, in a's first leg, turn to b

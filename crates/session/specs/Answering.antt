@@ -16,7 +16,7 @@ use Rattle.settings.specs.Refusal.{verdictNumber}
 use Rattle.session.specs.declared.Answered.{Answered}
 use Rattle.session.specs.declared.Session.{Session}
 
--- "LINE counts every line from 1"
+-- "LINE counts every line from 1"; % 2 ^ 64 is a guard, which no run reaches
 abbrev pub counted : Session → Session
 counted s = record { axis = s .axis; lines = (s .lines + 1) % 2 ^ 64 }
 

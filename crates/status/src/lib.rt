@@ -1,4 +1,4 @@
-// The statusword: the drive's bits, and those above bit 9 and bit 8 that homing, limits and the followed target set.
+// The statusword: the drive's bits, bit 8, and bits 10 to 13.
 use legs::events::View;
 use modes::Mode;
 use states::State;

@@ -28,7 +28,7 @@ fn is_kind(blank: bool, byte: u8) -> bool
     }
 }
 
-// The first place from `at` on that is not blank, or, of a word, is.
+// Past the blanks (blank), or past the word (not blank), that stands at `at`.
 fn skip(blank: bool, text: &[u8], at: usize) -> usize
     ensures { λ r. ⌜ r ≡ skipOf blank (now (text .entry)) at ⌝ }
     ensures { λ r. ⌜ min at (length (now (text .entry))) ≤ r ⌝ }

@@ -2,6 +2,7 @@
 -- Assumes nothing.
 use Prim.Native.Nat.{ℕ, suc, _-_, _/_, _%_, _^_, _<_, _≤_}
 use mathlib.Core.Path.{_≡_, refl, ap}
+use mathlib.Core.List.{List}
 use mathlib.Core.Bool.{Bool, true, false}
 use native.Mathlib.Omega.{arith}
 use borrow.Author.Tests.{lt-ltb, le-ltb, ltb-true, ltb-false, le-leb, leb-true}
@@ -12,6 +13,7 @@ use mir.Val.{SFits}
 use Rattle.counts.specs.Wrap.{modulo, signed}
 use Rattle.ranges.specs.Range.{positionOk, torqueOk}
 use Rattle.settings.proofs.Within.{both}
+use Rattle.words.specs.Decode.{at, positionAt}
 use Rattle.words.specs.Encode.{limitSet}
 
 pub signed-low : (x : ℕ) → x < 2 ^ 27 → signed 28 x ≡ pos x
@@ -49,6 +51,10 @@ signed-modulo (negsuc n) e =
     let h = leb-true n (2 ^ 27 - 1) (both (leb n (2 ^ 27 - 1)) true e .0) in
     let r : (2 ^ 28 - suc (n % 2 ^ 28)) % 2 ^ 28 ≡ 2 ^ 28 - suc n = omega arith in
     rw (r, signed-high (2 ^ 28 - suc n) (omega arith) (omega arith)) (ap negsuc (omega arith))
+
+-- on data that a word carried the guard of `positionAt` changes nothing
+pub position-kept : (d : List ℕ) (kind : ℕ) → at d kind < 2 ^ 28 → positionAt d kind ≡ signed 28 (at d kind)
+position-kept d kind h = ap (signed 28) (omega arith)
 
 -- 28 bits always read as a position in range
 pub signed-ok : (x : ℕ) → positionOk (signed 28 (x % 2 ^ 28)) ≡ true
