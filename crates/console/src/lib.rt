@@ -5,8 +5,12 @@ use libc::STDIN_FILENO;
 use libc::STDOUT_FILENO;
 use session::Answered;
 use session::Session;
-ghost use Prim.Native.Nat.{_<_, _≤_};
+ghost use Prim.Native.Nat.{ℕ, _<_, _≤_};
+ghost use mathlib.Core.List.{List};
+ghost use mathlib.Core.Path.{_≡_};
 ghost use lib.ListN.{length};
+ghost use Rattle.gather.specs.Lines.{Holds};
+ghost use Rattle.console.specs.Stream.{noneHeld, Stream, atFirst, afterLine, fedAll, finishedBy, Stands, Moved};
 
 // A session, and the line that has not ended yet.
 struct Console {
@@ -26,16 +30,29 @@ struct Turn {
     open: bool,
 }
 
-fn nothing_held() -> Held {
+fn nothing_held() -> Held
+    ensures { λ r. ⌜ r ≡ noneHeld ⌝ }
+{
     Held {
         length: 0,
         over: false,
     }
 }
 
+// Nothing has come yet.
+fn fresh() -> Console
+    ensures { λ r. ⌜ ((line : List ℕ) → Stands line r atFirst) ⌝ }
+{
+    Console {
+        session: Session::fresh(),
+        held: nothing_held(),
+    }
+}
+
 // What a line that has ended is answered, on the page.
 fn reply(session: Session, line: &[u8], held: Held, out: &mut [u8]) -> Answered
     ensures { λ r. ⌜ r .length ≤ length (now (out .exit)) ⌝ }
+    ensures { λ r. ⌜ ((bs : List ℕ) → 256 ≤ length (now (line .entry)) → Holds (now (line .entry)) held bs → r .session ≡ afterLine session bs) ⌝ }
 {
     match gather::end(line, held) {
         Ended::Text(n) => session.line(&line[..n], out),
@@ -44,7 +61,9 @@ fn reply(session: Session, line: &[u8], held: Held, out: &mut [u8]) -> Answered
 }
 
 // Answers a line that has ended.
-fn answer(session: Session, line: &[u8], held: Held) -> Session {
+fn answer(session: Session, line: &[u8], held: Held) -> Session
+    ensures { λ r. ⌜ ((bs : List ℕ) → 256 ≤ length (now (line .entry)) → Holds (now (line .entry)) held bs → r ≡ afterLine session bs) ⌝ }
+{
     let mut out = [0u8; 512];
     let answered = reply(session, line, held, &mut out);
     let written = answered.length;
@@ -55,6 +74,7 @@ fn answer(session: Session, line: &[u8], held: Held) -> Session {
 // Takes the chunk's bytes up to the next line's end, and answers that line.
 fn take_line(console: Console, chunk: &[u8], from: usize, line: &mut [u8]) -> Step
     ensures { λ r. ⌜ (from < length (now (chunk .entry)) → from < r .next) ⌝ }
+    ensures { λ r. ⌜ ((st : Stream) → 256 ≤ length (now (line .entry)) → Stands (now (line .entry)) console st → Moved (now (chunk .entry)) from (r .next) (now (line .exit)) (r .console) st) ⌝ }
 {
     let session = console.session;
     let before = console.held;
@@ -77,7 +97,9 @@ fn take_line(console: Console, chunk: &[u8], from: usize, line: &mut [u8]) -> St
 }
 
 // Answers each line that ends in the chunk.
-fn serve(console: Console, chunk: &[u8], line: &mut [u8]) -> Console {
+fn serve(console: Console, chunk: &[u8], line: &mut [u8]) -> Console
+    ensures { λ r. ⌜ ((st : Stream) → 256 ≤ length (now (line .entry)) → Stands (now (line .entry)) console st → Stands (now (line .exit)) r (fedAll st (now (chunk .entry)))) ⌝ }
+{
     let mut now = console;
     let mut i: usize = 0;
     while i < chunk.len() {
@@ -100,11 +122,15 @@ fn read_once(console: Console, line: &mut [u8]) -> Turn {
 }
 
 // The last line may have no end.
-fn finish(console: Console, line: &[u8]) {
+fn finish(console: Console, line: &[u8]) -> Session
+    ensures { λ r. ⌜ ((st : Stream) → 256 ≤ length (now (line .entry)) → Stands (now (line .entry)) console st → r ≡ finishedBy (st .session) (st .line)) ⌝ }
+{
     let session = console.session;
     let held = console.held;
     if 0 < held.length {
-        answer(session, line, held);
+        answer(session, line, held)
+    } else {
+        session
     }
 }
 
@@ -120,10 +146,7 @@ fn reads_left(reads: u64, open: bool) -> u64
 // Answers standard input to its end. A proved loop has to end: it counts its reads down from a number that no run uses up.
 pub fn run() {
     let mut line = [0u8; 256];
-    let mut console = Console {
-        session: Session::fresh(),
-        held: nothing_held(),
-    };
+    let mut console = fresh();
     let mut reads = u64::MAX;
     while 0 < reads {
         let turn = read_once(console, &mut line);

@@ -7,8 +7,8 @@ use mathlib.Core.Path.{_≡_, refl, sym, ap, _∙_}
 use native.Mathlib.Omega.{arith}
 use borrow.Author.Tests.{eq-eqb, ne-eqb, ltb-true, ltb-false, le-ltb}
 use lib.Dec.{eqb, ltb}
-use lib.ListN.{length, getD}
-use lib.Seq.{take-all, getD-take}
+use lib.ListN.{length, take, getD}
+use lib.Seq.{take-all, take-take, getD-take}
 use Rattle.gather.specs.declared.Ended.the-variants.{Text, TooLong}
 use Rattle.gather.specs.declared.Held.{Held}
 use Rattle.gather.specs.Lines.{Holds, withoutCR, fittingOf, endedOf, Inside}
@@ -23,6 +23,10 @@ fitting-inside n room h = inside-if (ltb n 256) n room h
 at-least : (t : Bool) (n : ℕ) → n ≤ suc (cond t (n - 1) n)
 at-least true n = omega arith
 at-least false n = omega arith
+
+at-most : (t : Bool) (n : ℕ) → cond t (n - 1) n ≤ n
+at-most true n = omega arith
+at-most false n = omega arith
 
 -- too many bytes came
 pub over-long : (line : List ℕ) (h : Held) (bs : List ℕ) → 256 ≤ length line → h .over ≡ true → Holds line h bs → TooLong ≡ endedOf bs
@@ -65,3 +69,20 @@ pub no-cr : (line : List ℕ) (h : Held) (bs : List ℕ) → h .over ≡ false �
 unfolding withoutCR
 no-cr line h bs o p e k =
     rw (ne-eqb (getD bs (length bs - 1) 0) 13 (λ q. e (last-held line h bs o p k ∙ q))) (ap fittingOf (all-held line h bs o k))
+
+-- a text that fits is held, byte by byte
+pub text-held : (line : List ℕ) (h : Held) (bs : List ℕ) (n : ℕ) → 256 ≤ length line → Holds line h bs → endedOf bs ≡ Text n
+    → take n line ≡ take n bs
+unfolding withoutCR
+text-held line h bs n r k e = go (ltb (withoutCR bs) 256) refl e
+  where
+    go : (t : Bool) → ltb (withoutCR bs) 256 ≡ t → cond t (Text (withoutCR bs)) TooLong ≡ Text n → take n line ≡ take n bs
+    go true f q =
+        let m : withoutCR bs ≡ n = cc in
+        let b = ltb-true (withoutCR bs) 256 f in
+        let l = at-most (eqb (getD bs (length bs - 1) 0) 13) (length bs) in
+        let c = k .count in
+        sym (take-take n (h .length) line (omega (arith, m, b, l, c)))
+        ∙ ap (take n) (k .bytes)
+        ∙ take-take n (length line) bs (omega (arith, m, b))
+    go false f q = let z : _≡_ {A = ℕ} 0 1 = cc in absurd (omega arith)

@@ -1,6 +1,6 @@
 -- A line's bytes as they come, whatever the reads cut them into. "A line's length, without its end, is at most 255 bytes."
 -- Assumes nothing.
-use Prim.Native.Nat.{ℕ, _-_, _≤_, min}
+use Prim.Native.Nat.{ℕ, _+_, _-_, _≤_, min}
 use mathlib.Core.Bool.{Bool, cond}
 use mathlib.Core.List.{List}
 use mathlib.Core.Path.{_≡_}
@@ -24,6 +24,10 @@ partOf chunk from = take (indexOf 10 (drop from chunk)) (drop from chunk)
 -- there is an LF
 abbrev pub endsIn : List ℕ → ℕ → Bool
 endsIn chunk from = ltb (indexOf 10 (drop from chunk)) (length (drop from chunk))
+
+-- where the rest begins: past the LF, or past the chunk where there is none
+abbrev pub nextOf : List ℕ → ℕ → ℕ
+nextOf chunk from = from + indexOf 10 (drop from chunk) + cond (endsIn chunk from) 1 0
 
 -- "a CR right before that end is no part of it"
 unfoldable pub withoutCR : List ℕ → ℕ

@@ -3,7 +3,7 @@ ghost use mathlib.Core.List.{List, _∷_, [], _++_};
 ghost use Prim.Native.Nat.{ℕ, _<_, _≤_};
 ghost use mathlib.Core.Path.{_≡_};
 ghost use lib.ListN.{length};
-ghost use Rattle.gather.specs.Lines.{Holds, partOf, endsIn, fittingOf, endedOf, Inside};
+ghost use Rattle.gather.specs.Lines.{Holds, partOf, endsIn, nextOf, fittingOf, endedOf, Inside};
 
 // How many bytes of a line are held, and whether there were more than there is room for.
 pub struct Held {
@@ -48,6 +48,7 @@ fn keep(line: &mut [u8], held: Held, byte: u8) -> Held
 pub fn take(chunk: &[u8], from: usize, line: &mut [u8], held: Held) -> Gathered
     ensures { λ r. ⌜ length (now (line .exit)) ≡ length (now (line .entry)) ⌝ }
     ensures { λ r. ⌜ (from < length (now (chunk .entry)) → from < r .next) ⌝ }
+    ensures { λ r. ⌜ r .next ≡ nextOf (now (chunk .entry)) from ⌝ }
     ensures { λ r. ⌜ r .ended ≡ endsIn (now (chunk .entry)) from ⌝ }
     ensures { λ r. ⌜ ((bs : List ℕ) → Holds (now (line .entry)) held bs → Holds (now (line .exit)) (r .held) (bs ++ partOf (now (chunk .entry)) from)) ⌝ }
 {

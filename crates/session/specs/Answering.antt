@@ -16,6 +16,9 @@ use Rattle.settings.specs.Refusal.{verdictNumber}
 use Rattle.session.specs.declared.Answered.{Answered}
 use Rattle.session.specs.declared.Session.{Session}
 
+abbrev pub freshSession : Session
+freshSession = record { axis = freshAxis; lines = 0 }
+
 -- "LINE counts every line from 1"; % 2 ^ 64 is a guard, which no run reaches
 abbrev pub counted : Session → Session
 counted s = record { axis = s .axis; lines = (s .lines + 1) % 2 ^ 64 }

@@ -3,10 +3,9 @@ use axis::Axis;
 use lines::Line;
 use ticks::Tick;
 ghost use mathlib.Core.Path.{_≡_};
-ghost use Rattle.axis.specs.Tick.{freshAxis};
 ghost use Rattle.lines.specs.Lines.{lineOf};
 ghost use Rattle.complaints.specs.Texts.{longText};
-ghost use Rattle.session.specs.Answering.{counted, withAxis, nextOf, textOf, Answers};
+ghost use Rattle.session.specs.Answering.{freshSession, counted, withAxis, nextOf, textOf, Answers};
 
 pub struct Session {
     pub axis: Axis,
@@ -22,7 +21,7 @@ pub struct Answered {
 
 impl Session {
     pub fn fresh() -> Session
-        ensures { λ r. ⌜ (r .axis ≡ freshAxis) × (r .lines ≡ 0) ⌝ }
+        ensures { λ r. ⌜ r ≡ freshSession ⌝ }
     {
         Session {
             axis: Axis::fresh(),

@@ -1,10 +1,11 @@
--- `console::reply` meets its contract: a text lies in its line, and an answer on its page.
+-- `console::reply` meets its contract: a text lies in its line, an answer on its page, and the session goes by the line's bytes.
 -- Assumes nothing.
-use mathlib.Core.Path.{sym, subst}
+use mathlib.Core.Path.{sym, subst, _∙_}
 use lib.ListN.{length}
 use lib.Seq.{length-take-le}
 use Rattle.gather.specs.Lines.{Inside}
 use Rattle.console.proofs.Pages.{on-page}
+use Rattle.console.proofs.Streams.{text-answered, long-answered}
 use borrow.Author.Needs.{needs}
 use Rattle.console.proofs.reply.Statement.{statement}
 use Rattle.console.proofs.reply.Tie as tie
@@ -34,13 +35,26 @@ same-length : tie.Need-same-length
 same-length c = search needs
 
 returns : tie.Need-returns
-returns c = on-page (c .before .before .line .ensures .1)
+returns c =
+    let l = c .before .before .line .ensures in
+    let m = c .before .before .before .before .before .before in
+    let e = m .before .before in
+    let a = e .before .before .before .args in (
+      on-page (l .1),
+      λ bs r k.
+          l .0 ∙ text-answered (a .session) (a .line .now) (a .held) bs (m .n .given .0 .0) r k (sym (e .end .ensures .1 bs r k) ∙ m .n .given .1),
+    )
 
 same-length-2 : tie.Need-same-length-2
 same-length-2 c = search needs
 
 returns-2 : tie.Need-returns-2
-returns-2 c = on-page (c .before .before .long-line .ensures .1)
+returns-2 c =
+    let l = c .before .before .long-line .ensures in
+    let m = c .before .before .before .before in
+    let e = m .before .before in
+    let a = e .before .before .before .args in
+    (on-page (l .1), λ bs r k. l .0 ∙ long-answered (a .session) bs (sym (e .end .ensures .1 bs r k) ∙ m .enum-told .given .1))
 
 pub reply-spec : {M : Type 1} → statement M
 reply-spec =

@@ -16,9 +16,6 @@ abbrev μ-loop : tie.MeasureT-loop
 fresh-requires : tie.Need-fresh-requires Inv-loop μ-loop
 fresh-requires c κs = search needs
 
-nothing-held-requires : tie.Need-nothing-held-requires Inv-loop μ-loop
-nothing-held-requires c κs = search needs
-
 loop-holds : tie.Need-loop-holds Inv-loop μ-loop
 loop-holds c = refl
 
@@ -55,7 +52,6 @@ run-spec =
     Inv-loop
     μ-loop
     fresh-requires
-    nothing-held-requires
     loop-holds
     slice-aggregate-read-once
     read-once-requires

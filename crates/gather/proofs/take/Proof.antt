@@ -48,13 +48,17 @@ returns c =
     let a = c .before .before .before .before .before .before .args in
     let xs = a .chunk .now in
     let z = at-lf xs (l .loop .i) (omega arith) (c .if1 .taken) in
-    let n : indexOf 10 (drop (a .from) xs) ≡ l .loop .i - a .from = omega (arith, l .loop .inv .2) in (
+    let n : indexOf 10 (drop (a .from) xs) ≡ l .loop .i - a .from = omega (arith, l .loop .inv .2) in
+    let ends = lt-ltb (indexOf 10 (drop (a .from) xs)) (length (drop (a .from) xs)) (omega (arith, length-drop (a .from) xs, l .loop .inv .0)) in (
       l .loop .inv .1,
       (
         λ h. omega (arith, l .loop .inv .0),
         (
-          sym (lt-ltb (indexOf 10 (drop (a .from) xs)) (length (drop (a .from) xs)) (omega (arith, length-drop (a .from) xs, l .loop .inv .0))),
-          λ bs k. subst (λ j. Holds (l .loop .line) (l .loop .kept) (bs ++ take j (drop (a .from) xs))) (sym n) (l .loop .inv .3 bs k),
+          rw ends (omega (arith, n, l .loop .inv .0)),
+          (
+            sym ends,
+            λ bs k. subst (λ j. Holds (l .loop .line) (l .loop .kept) (bs ++ take j (drop (a .from) xs))) (sym n) (l .loop .inv .3 bs k),
+          ),
         ),
       ),
     )
@@ -90,13 +94,17 @@ returns-2 c =
     let a = c .before .before .before .before .args in
     let xs = a .chunk .now in
     let z = no-more xs (l .loop .i) (omega arith) in
-    let n : indexOf 10 (drop (a .from) xs) ≡ l .loop .i - a .from = omega (arith, l .loop .inv .2) in (
+    let n : indexOf 10 (drop (a .from) xs) ≡ l .loop .i - a .from = omega (arith, l .loop .inv .2) in
+    let runs-on = le-ltb (indexOf 10 (drop (a .from) xs)) (length (drop (a .from) xs)) (omega (arith, length-drop (a .from) xs)) in (
       l .loop .inv .1,
       (
         λ h. omega arith,
         (
-          sym (le-ltb (indexOf 10 (drop (a .from) xs)) (length (drop (a .from) xs)) (omega (arith, length-drop (a .from) xs))),
-          λ bs k. subst (λ j. Holds (l .loop .line) (l .loop .kept) (bs ++ take j (drop (a .from) xs))) (sym n) (l .loop .inv .3 bs k),
+          rw runs-on (omega (arith, n, l .loop .inv .0)),
+          (
+            sym runs-on,
+            λ bs k. subst (λ j. Holds (l .loop .line) (l .loop .kept) (bs ++ take j (drop (a .from) xs))) (sym n) (l .loop .inv .3 bs k),
+          ),
         ),
       ),
     )

@@ -1,0 +1,59 @@
+-- "One line in, one line out, in order": what the bytes of an input come to, one after the other, however the reads cut them.
+-- Assumes nothing.
+use Prim.Native.Nat.{ℕ}
+use mathlib.Core.Bool.{false, cond}
+use mathlib.Core.List.{List, [], _∷_, _++_}
+use mathlib.Core.Path.{_≡_}
+use lib.Dec.{eqb}
+use lib.ListN.{take, drop}
+use Rattle.gather.specs.declared.Ended.{Ended}
+use Rattle.gather.specs.declared.Ended.the-variants.{Text, TooLong}
+use Rattle.gather.specs.declared.Held.{Held}
+use Rattle.gather.specs.Lines.{Holds, endedOf}
+use Rattle.lines.specs.Lines.{lineOf}
+use Rattle.session.specs.declared.Session.{Session}
+use Rattle.session.specs.Answering.{freshSession, counted, nextOf}
+use Rattle.console.specs.declared.Console.{Console}
+
+abbrev pub noneHeld : Held
+noneHeld = record { length = 0; over = false }
+
+-- the session after the lines that have ended, and the bytes since then
+pub record Stream : Type 0 where
+  pub session : Session
+  pub line : List ℕ
+
+abbrev pub atFirst : Stream
+atFirst = record { session = freshSession; line = [] }
+
+abbrev pub afterEnded : Session → List ℕ → Ended → Session
+afterEnded s bs (Text n) = nextOf (counted s) (lineOf (take n bs))
+afterEnded s bs TooLong = counted s
+
+-- after a line of these bytes
+abbrev pub afterLine : Session → List ℕ → Session
+afterLine s bs = afterEnded s bs (endedOf bs)
+
+-- one byte more; "a line ends with LF"
+unfoldable pub fed : Stream → ℕ → Stream
+fed st b = cond (eqb b 10) (record { session = afterLine (st .session) (st .line); line = [] }) (record { session = st .session; line = st .line ++ b ∷ [] })
+
+abbrev pub fedAll : Stream → List ℕ → Stream
+fedAll st [] = st
+fedAll st (b ∷ bs) = fedAll (fed st b) bs
+
+-- "A line ends with LF or with the end of the input": what stands after the last LF, if anything, is a line
+abbrev pub finishedBy : Session → List ℕ → Session
+finishedBy s [] = s
+finishedBy s (b ∷ bs) = afterLine s (b ∷ bs)
+
+-- a console, with its buffer, stands where a stream does
+pub record Stands (line : List ℕ) (c : Console) (st : Stream) : Type 0 where
+  pub session : c .session ≡ st .session
+  pub held : Holds line (c .held) (st .line)
+
+-- a console stands at next where the stream would, had it been fed the chunk so far
+pub record Moved (chunk : List ℕ) (from next : ℕ) (line : List ℕ) (c : Console) (st : Stream) : Type 0 where
+  pub stream : Stream
+  pub stands : Stands line c stream
+  pub rest : fedAll st (drop from chunk) ≡ fedAll stream (drop next chunk)
