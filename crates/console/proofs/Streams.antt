@@ -15,10 +15,11 @@ use Rattle.gather.specs.declared.Ended.the-variants.{Text, TooLong}
 use Rattle.gather.specs.Lines.{Holds, partOf, endsIn, nextOf as placeAfter, endedOf}
 use Rattle.gather.proofs.Ends.{text-held}
 use Rattle.lines.specs.Lines.{lineOf}
+use Rattle.complaints.specs.Texts.{longText}
 use Rattle.session.specs.declared.Session.{Session}
-use Rattle.session.specs.Answering.{freshSession, counted, nextOf}
+use Rattle.session.specs.Answering.{freshSession, counted, nextOf, textOf}
 use Rattle.console.specs.declared.Console.{Console}
-use Rattle.console.specs.Stream.{noneHeld, Stream, atFirst, afterEnded, afterLine, fed, fedAll, finishedBy, Stands, Moved}
+use Rattle.console.specs.Stream.{noneHeld, Stream, atFirst, afterEnded, afterLine, answerEnded, answerTo, fed, fedAll, finishedBy, Stands, Moved}
 
 abbrev at : Session → List ℕ → Stream
 at s line = record { session = s; line = line }
@@ -105,6 +106,14 @@ pub text-answered : (s : Session) (line : List ℕ) (h : Held) (bs : List ℕ) (
     → nextOf (counted s) (lineOf (take n line)) ≡ afterLine s bs
 text-answered s line h bs n r k e =
     ap (λ (text : List ℕ). nextOf (counted s) (lineOf text)) (text-held line h bs n r k e) ∙ sym (ap (afterEnded s bs) e)
+
+pub text-printed : (s : Session) (line : List ℕ) (h : Held) (bs : List ℕ) (n : ℕ) → 256 ≤ length line → Holds line h bs → endedOf bs ≡ Text n
+    → textOf (counted s) (lineOf (take n line)) ≡ answerTo s bs
+text-printed s line h bs n r k e =
+    ap (λ (text : List ℕ). textOf (counted s) (lineOf text)) (text-held line h bs n r k e) ∙ sym (ap (answerEnded s bs) e)
+
+pub long-printed : (s : Session) (bs : List ℕ) → endedOf bs ≡ TooLong → longText (counted s .lines) ≡ answerTo s bs
+long-printed s bs e = sym (ap (answerEnded s bs) e)
 
 pub long-answered : (s : Session) (bs : List ℕ) → endedOf bs ≡ TooLong → counted s ≡ afterLine s bs
 long-answered s bs e = sym (ap (afterEnded s bs) e)

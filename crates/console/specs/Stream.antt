@@ -11,8 +11,9 @@ use Rattle.gather.specs.declared.Ended.the-variants.{Text, TooLong}
 use Rattle.gather.specs.declared.Held.{Held}
 use Rattle.gather.specs.Lines.{Holds, endedOf}
 use Rattle.lines.specs.Lines.{lineOf}
+use Rattle.complaints.specs.Texts.{longText}
 use Rattle.session.specs.declared.Session.{Session}
-use Rattle.session.specs.Answering.{freshSession, counted, nextOf}
+use Rattle.session.specs.Answering.{freshSession, counted, nextOf, textOf}
 use Rattle.console.specs.declared.Console.{Console}
 
 abbrev pub noneHeld : Held
@@ -33,6 +34,14 @@ afterEnded s bs TooLong = counted s
 -- after a line of these bytes
 abbrev pub afterLine : Session → List ℕ → Session
 afterLine s bs = afterEnded s bs (endedOf bs)
+
+abbrev pub answerEnded : Session → List ℕ → Ended → List ℕ
+answerEnded s bs (Text n) = textOf (counted s) (lineOf (take n bs))
+answerEnded s bs TooLong = longText (counted s .lines)
+
+-- and its answer
+abbrev pub answerTo : Session → List ℕ → List ℕ
+answerTo s bs = answerEnded s bs (endedOf bs)
 
 -- one byte more; "a line ends with LF"
 unfoldable pub fed : Stream → ℕ → Stream

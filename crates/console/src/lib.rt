@@ -8,9 +8,9 @@ use session::Session;
 ghost use Prim.Native.Nat.{ℕ, _<_, _≤_};
 ghost use mathlib.Core.List.{List};
 ghost use mathlib.Core.Path.{_≡_};
-ghost use lib.ListN.{length};
+ghost use lib.ListN.{length, take};
 ghost use Rattle.gather.specs.Lines.{Holds};
-ghost use Rattle.console.specs.Stream.{noneHeld, Stream, atFirst, afterLine, fedAll, finishedBy, Stands, Moved};
+ghost use Rattle.console.specs.Stream.{noneHeld, Stream, atFirst, afterLine, answerTo, fedAll, finishedBy, Stands, Moved};
 
 // A session, and the line that has not ended yet.
 struct Console {
@@ -53,6 +53,7 @@ fn fresh() -> Console
 fn reply(session: Session, line: &[u8], held: Held, out: &mut [u8]) -> Answered
     ensures { λ r. ⌜ r .length ≤ length (now (out .exit)) ⌝ }
     ensures { λ r. ⌜ ((bs : List ℕ) → 256 ≤ length (now (line .entry)) → Holds (now (line .entry)) held bs → r .session ≡ afterLine session bs) ⌝ }
+    ensures { λ r. ⌜ ((bs : List ℕ) → 256 ≤ length (now (line .entry)) → 512 ≤ length (now (out .entry)) → Holds (now (line .entry)) held bs → take (r .length) (now (out .exit)) ≡ answerTo session bs) ⌝ }
 {
     match gather::end(line, held) {
         Ended::Text(n) => session.line(&line[..n], out),

@@ -1,8 +1,9 @@
 -- "one line in, one line out, in order": what a line does to the axis, and its answer.
 -- Assumes nothing.
-use Prim.Native.Nat.{ℕ, _+_, _%_, _^_}
+use Prim.Native.Nat.{ℕ, _+_, _%_, _^_, _≤_}
 use mathlib.Core.List.{List, []}
 use mathlib.Core.Path.{_≡_}
+use lib.ListN.{length}
 use Rattle.axis.specs.declared.Axis.{Axis}
 use Rattle.axis.specs.Tick.{freshAxis, tickOf}
 use Rattle.axis.specs.Word.{wordOf}
@@ -10,7 +11,7 @@ use Rattle.lent.specs.Lent.{writtenText}
 use Rattle.lines.specs.declared.Line.{Line}
 use Rattle.lines.specs.declared.Line.the-variants.{Blank, Fresh, Word, Tick, Sheet, Unreadable}
 use Rattle.page.specs.Page.{Printed}
-use Rattle.complaints.specs.Texts.{unreadableText}
+use Rattle.complaints.specs.Texts.{unreadableText, longText}
 use Rattle.printer.specs.Texts.{freshText, wordText, tickText}
 use Rattle.settings.specs.Refusal.{verdictNumber}
 use Rattle.session.specs.declared.Answered.{Answered}
@@ -46,3 +47,10 @@ textOf s (Unreadable t) = unreadableText (s .lines) t
 -- a session answers with a text, printed on a page
 abbrev pub Answers : List ℕ → List ℕ → Answered → Session → List ℕ → Type 0
 Answers page page′ r s text = (r .session ≡ s) × Printed page 0 text page′ (r .length)
+
+-- every answer fits a page of 512 bytes
+abbrev pub Fits : Type 0
+Fits = (s : Session) (l : Line) → length (textOf s l) ≤ 512
+
+abbrev pub LongFits : Type 0
+LongFits = (line : ℕ) → length (longText line) ≤ 512

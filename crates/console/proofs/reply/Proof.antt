@@ -1,11 +1,15 @@
--- `console::reply` meets its contract: a text lies in its line, an answer on its page, and the session goes by the line's bytes.
+-- `console::reply` meets its contract: a text lies in its line, an answer on its page and whole, and both go by the line's bytes.
 -- Assumes nothing.
 use mathlib.Core.Path.{sym, subst, _∙_}
-use lib.ListN.{length}
+use native.Mathlib.Omega.{arith}
+use lib.ListN.{length, take}
 use lib.Seq.{length-take-le}
 use Rattle.gather.specs.Lines.{Inside}
-use Rattle.console.proofs.Pages.{on-page}
-use Rattle.console.proofs.Streams.{text-answered, long-answered}
+use Rattle.lines.specs.Lines.{lineOf}
+use Rattle.session.specs.Answering.{counted}
+use Rattle.session.proofs.Fits.{fits, long-fits}
+use Rattle.console.proofs.Pages.{on-page, whole-on-page}
+use Rattle.console.proofs.Streams.{text-answered, text-printed, long-answered, long-printed}
 use borrow.Author.Needs.{needs}
 use Rattle.console.proofs.reply.Statement.{statement}
 use Rattle.console.proofs.reply.Tie as tie
@@ -39,10 +43,15 @@ returns c =
     let l = c .before .before .line .ensures in
     let m = c .before .before .before .before .before .before in
     let e = m .before .before in
-    let a = e .before .before .before .args in (
+    let a = e .before .before .before .args in
+    let n = m .n .given .0 .0 in (
       on-page (l .1),
-      λ bs r k.
-          l .0 ∙ text-answered (a .session) (a .line .now) (a .held) bs (m .n .given .0 .0) r k (sym (e .end .ensures .1 bs r k) ∙ m .n .given .1),
+      (
+        λ bs r k. l .0 ∙ text-answered (a .session) (a .line .now) (a .held) bs n r k (sym (e .end .ensures .1 bs r k) ∙ m .n .given .1),
+        λ bs r o k.
+            whole-on-page (omega (arith, fits (counted (a .session)) (lineOf (take n (a .line .now))), o)) (l .1)
+            ∙ text-printed (a .session) (a .line .now) (a .held) bs n r k (sym (e .end .ensures .1 bs r k) ∙ m .n .given .1),
+      ),
     )
 
 same-length-2 : tie.Need-same-length-2
@@ -53,8 +62,15 @@ returns-2 c =
     let l = c .before .before .long-line .ensures in
     let m = c .before .before .before .before in
     let e = m .before .before in
-    let a = e .before .before .before .args in
-    (on-page (l .1), λ bs r k. l .0 ∙ long-answered (a .session) bs (sym (e .end .ensures .1 bs r k) ∙ m .enum-told .given .1))
+    let a = e .before .before .before .args in (
+      on-page (l .1),
+      (
+        λ bs r k. l .0 ∙ long-answered (a .session) bs (sym (e .end .ensures .1 bs r k) ∙ m .enum-told .given .1),
+        λ bs r o k.
+            whole-on-page (omega (arith, long-fits (counted (a .session) .lines), o)) (l .1)
+            ∙ long-printed (a .session) bs (sym (e .end .ensures .1 bs r k) ∙ m .enum-told .given .1),
+      ),
+    )
 
 pub reply-spec : {M : Type 1} → statement M
 reply-spec =

@@ -1,0 +1,155 @@
+-- Every answer fits its page: each part of a text has a bound, and the bounds add up.
+-- Assumes nothing.
+use Prim.Native.Nat.{ℕ, zero, suc, _+_, _*_, _/_, _%_, _≤_, min}
+use mathlib.Core.Bool.{Bool, true, false, cond}
+use mathlib.Core.List.{List, [], _∷_, _++_}
+use mathlib.Core.Path.{_≡_, refl, sym, ap, subst, _∙_}
+use native.Mathlib.Omega.{arith}
+use borrow.Author.Tests.{ltb-true, ltb-false}
+use lib.Dec.{eqb, ltb}
+use lib.IntN.{ℤ, pos, negsuc}
+use lib.ListN.{length, drop, replicate, length-append, length-drop, length-replicate}
+use Rattle.settings.specs.declared.Settings.{Settings}
+use Rattle.settings.specs.declared.Verdict.{Verdict}
+use Rattle.settings.specs.declared.Verdict.the-variants.{Accepted, Refused}
+use Rattle.settings.specs.Refusal.{verdictNumber}
+use Rattle.answers.specs.declared.Answer.{Answer}
+use Rattle.words.specs.Encode.{valuesOf, wordsOf}
+use Rattle.words.proofs.Words.{length-sealed}
+use Rattle.writer.specs.Write.{writeVerdict, leftBy, written}
+use Rattle.sheets.specs.declared.Writing.{Writing}
+use Rattle.numerals.specs.Writing.{glyph, hexadecimal, digits, decimal, whole}
+use Rattle.tokens.specs.Ascii.{ascii}
+use Rattle.printer.specs.Texts.{tradeWord, freshText, wordText, motionText, tickText, wordsText, sheetText}
+use Rattle.complaints.specs.Texts.{expectedText, placeText, unreadableText, longText}
+use Rattle.cursors.specs.declared.Expected.{Expected}
+use Rattle.cursors.specs.declared.Expected.the-variants.{Keyword, Digits, Whole, Float, Command, At, Switches, Standstill, Set, End}
+use Rattle.lent.specs.Lent.{lentOf, writtenText}
+use Rattle.lines.specs.declared.Line.{Line}
+use Rattle.lines.specs.declared.Line.the-variants.{Blank, Fresh, Word, Tick, Sheet, Unreadable}
+use Rattle.axis.specs.Word.{wordOf}
+use Rattle.axis.specs.Tick.{tickOf}
+use Rattle.session.specs.declared.Session.{Session}
+use Rattle.session.specs.Answering.{textOf, Fits, LongFits}
+
+record Short (n : ℕ) (xs : List ℕ) : Type 0 where
+  short : length xs ≤ n
+
+is : {n : ℕ} {xs : List ℕ} → length xs ≤ n → Short n xs
+is h = record { short = h }
+
+both : {m n : ℕ} {xs ys : List ℕ} → Short m xs → Short n ys → Short (m + n) (xs ++ ys)
+both {xs = xs} {ys = ys} h k = is (omega (arith, length-append xs ys, h .short, k .short))
+
+all : (xs : List ℕ) → Short (length xs) xs
+all xs = is (omega arith)
+
+either : {n : ℕ} (t : Bool) {xs ys : List ℕ} → Short n xs → Short n ys → Short n (cond t xs ys)
+either true h k = h
+either false h k = k
+
+within : {m n : ℕ} {xs : List ℕ} → Short m xs → m ≤ n → Short n xs
+within h k = is (omega (arith, h .short, k))
+
+-- ---- numbers
+
+digits-short : (places n : ℕ) → Short places (digits places n)
+unfolding digits
+digits-short zero n = is (omega arith)
+digits-short (suc places) n =
+    either (ltb n 10) (is (omega arith)) (within (both (digits-short places (n / 10)) (all (glyph (n % 10) ∷ []))) (omega arith))
+
+hexadecimal-short : (places n : ℕ) → Short places (hexadecimal places n)
+unfolding hexadecimal
+hexadecimal-short zero n = is (omega arith)
+hexadecimal-short (suc places) n = within (both (hexadecimal-short places (n / 16)) (all (glyph (n % 16) ∷ []))) (omega arith)
+
+whole-short : (z : ℤ) → Short 21 (whole z)
+whole-short (pos n) = within (digits-short 20 n) (omega arith)
+whole-short (negsuc n) = is (omega (arith, digits-short 20 (suc n) .short))
+
+-- ---- texts
+
+trade-short : (n : ℕ) → Short 17 (tradeWord n)
+trade-short n =
+    either (eqb n 0) (is (omega arith))
+    (either (eqb n 1) (is (omega arith))
+    (either (eqb n 2) (is (omega arith))
+    (either (eqb n 3) (is (omega arith))
+    (either (eqb n 4) (is (omega arith))
+    (either (eqb n 5) (is (omega arith))
+    (either (eqb n 6) (is (omega arith)) (either (eqb n 7) (is (omega arith)) (either (eqb n 8) (is (omega arith)) (is (omega arith))))))))))
+
+word-short : (n : ℕ) → Short 512 (wordText n)
+word-short n = within (both (both (all (ascii "word ")) (digits-short 20 n)) (trade-short n)) (omega arith)
+
+tick-short : (a : Answer) → Short 512 (tickText a)
+unfolding motionText tickText
+tick-short a =
+    within
+    (both
+    (both
+    (both
+    (both
+    (both
+    (both
+    (both (both (both (all (ascii "tick ")) (digits-short 20 (a .number))) (both (all (ascii " torque ")) (whole-short (a .torque)))) (both (all (ascii " speed ")) (whole-short (a .speed))))
+    (both (all (ascii " position ")) (whole-short (a .position))))
+    (all (ascii " status ")))
+    (hexadecimal-short 4 (a .status)))
+    (both (all (ascii " mode ")) (whole-short (a .mode))))
+    (both (all (ascii " alarm ")) (digits-short 20 (a .alarm))))
+    (trade-short (a .number)))
+    (omega arith)
+
+words-short : (ws : List ℕ) → Short (9 * length ws) (wordsText ws)
+unfolding wordsText
+words-short [] = is (omega arith)
+words-short (w ∷ ws) = within (both (both (all (32 ∷ [])) (hexadecimal-short 8 w)) (words-short ws)) (omega arith)
+
+-- the writer keeps the buffer's length
+kept : (s : Settings) (buffer : List ℕ) → length (written s buffer) ≡ length buffer
+unfolding writeVerdict wordsOf valuesOf
+kept s buffer = go (ltb (length buffer) 15) refl
+  where
+    filled : (v : Verdict) → 15 ≤ length buffer → length (leftBy v s buffer) ≡ length buffer
+    filled Accepted h = omega (arith, h, length-append (wordsOf s) (drop 15 buffer), length-sealed (valuesOf s), length-drop 15 buffer)
+    filled (Refused r) h = refl
+
+    go : (t : Bool) → ltb (length buffer) 15 ≡ t → length (written s buffer) ≡ length buffer
+    go true e = rw e
+    go false e = filled (writeVerdict s buffer) (ltb-false (length buffer) 15 e)
+
+sheet-short : (w : Writing) → Short 512 (writtenText w)
+sheet-short w =
+    let n = verdictNumber (writeVerdict (w .settings) (lentOf w)) in
+    let ws = written (w .settings) (lentOf w) in
+    within (both (both (both (all (ascii "sheet ")) (digits-short 20 n)) (words-short ws)) (trade-short n))
+    (omega (arith, kept (w .settings) (lentOf w), length-replicate {A = ℕ} (min (w .length) 32) 0xDEADBEEF))
+
+place-short : (line column : ℕ) → Short 52 (placeText line column)
+place-short line column =
+    within (both (both (all (ascii "unreadable ")) (digits-short 20 line)) (both (all (32 ∷ [])) (digits-short 20 column))) (omega arith)
+
+expected-short : (e : Expected) → Short 37 (expectedText e)
+expected-short Keyword = is (omega arith)
+expected-short Digits = is (omega arith)
+expected-short Whole = is (omega arith)
+expected-short Float = is (omega arith)
+expected-short Command = is (omega arith)
+expected-short At = is (omega arith)
+expected-short Switches = is (omega arith)
+expected-short Standstill = is (omega arith)
+expected-short Set = is (omega arith)
+expected-short End = is (omega arith)
+
+pub long-fits : LongFits
+long-fits line = within {n = 512} (both (place-short line 256) (all (ascii " line too long\n"))) (omega arith) .short
+
+pub fits : Fits
+fits s Blank = omega arith
+fits s Fresh = omega arith
+fits s (Word w) = word-short (verdictNumber (wordOf (s .axis) w .verdict)) .short
+fits s (Tick t) = tick-short (tickOf (s .axis) t .answer) .short
+fits s (Sheet w) = sheet-short w .short
+fits s (Unreadable t) = within {n = 512} (both (place-short (s .lines) (t .column)) (expected-short (t .expected))) (omega arith) .short
