@@ -3,12 +3,12 @@
 use Prim.Native.Nat.{ℕ, zero, suc, _+_, _*_, _/_, _%_, _≤_, min}
 use mathlib.Core.Bool.{Bool, true, false, cond}
 use mathlib.Core.List.{List, [], _∷_, _++_}
-use mathlib.Core.Path.{_≡_, refl, sym, ap, subst, _∙_}
+use mathlib.Core.Path.{_≡_, refl}
 use native.Mathlib.Omega.{arith}
-use borrow.Author.Tests.{ltb-true, ltb-false}
+use borrow.Author.Tests.{ltb-false}
 use lib.Dec.{eqb, ltb}
 use lib.IntN.{ℤ, pos, negsuc}
-use lib.ListN.{length, drop, replicate, length-append, length-drop, length-replicate}
+use lib.ListN.{length, drop, length-append, length-drop, length-replicate}
 use Rattle.settings.specs.declared.Settings.{Settings}
 use Rattle.settings.specs.declared.Verdict.{Verdict}
 use Rattle.settings.specs.declared.Verdict.the-variants.{Accepted, Refused}
@@ -18,19 +18,17 @@ use Rattle.words.specs.Encode.{valuesOf, wordsOf}
 use Rattle.words.proofs.Words.{length-sealed}
 use Rattle.writer.specs.Write.{writeVerdict, leftBy, written}
 use Rattle.sheets.specs.declared.Writing.{Writing}
-use Rattle.numerals.specs.Writing.{glyph, hexadecimal, digits, decimal, whole}
+use Rattle.numerals.specs.Writing.{glyph, hexadecimal, digits, whole}
 use Rattle.tokens.specs.Ascii.{ascii}
-use Rattle.printer.specs.Texts.{tradeWord, freshText, wordText, motionText, tickText, wordsText, sheetText}
-use Rattle.complaints.specs.Texts.{expectedText, placeText, unreadableText, longText}
+use Rattle.printer.specs.Texts.{tradeWord, wordText, motionText, tickText, wordsText}
+use Rattle.complaints.specs.Texts.{expectedText, placeText}
 use Rattle.cursors.specs.declared.Expected.{Expected}
 use Rattle.cursors.specs.declared.Expected.the-variants.{Keyword, Digits, Whole, Float, Command, At, Switches, Standstill, Set, End}
 use Rattle.lent.specs.Lent.{lentOf, writtenText}
-use Rattle.lines.specs.declared.Line.{Line}
 use Rattle.lines.specs.declared.Line.the-variants.{Blank, Fresh, Word, Tick, Sheet, Unreadable}
 use Rattle.axis.specs.Word.{wordOf}
 use Rattle.axis.specs.Tick.{tickOf}
-use Rattle.session.specs.declared.Session.{Session}
-use Rattle.session.specs.Answering.{textOf, Fits, LongFits}
+use Rattle.session.specs.Answering.{Fits, LongFits}
 
 record Short (n : ℕ) (xs : List ℕ) : Type 0 where
   short : length xs ≤ n
