@@ -1,7 +1,6 @@
 //! What the proved axis is measured against, and the words in which both are fed.
 
 pub mod baseline;
-pub mod layout;
 pub mod lines;
 pub mod rows;
 pub mod words;

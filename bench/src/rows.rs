@@ -1,7 +1,7 @@
 //! The rows of the table: what is fed before, and what is counted.
 
 use crate::baseline::{Command, Gains, Tick, HOM};
-use crate::words::Events;
+use crate::words::{event, Event};
 
 /// 01's sheet S.
 pub const SHEET: [u32; 15] = [
@@ -33,8 +33,8 @@ pub const NAMES: [&str; 16] = [
 
 /// Before, and counted.
 pub struct Row {
-    pub before: Events,
-    pub counted: Events,
+    pub before: Vec<Event>,
+    pub counted: Vec<Event>,
 }
 
 const SHUTDOWN: u16 = 0x06;
@@ -44,16 +44,16 @@ const ENABLE_AND_START: u16 = 0x1f;
 const STILL: Tick =
     Tick { control: ENABLE, command: Command::Rest, position: 103, switches: 0, still: true, set: 0, alarm: 0 };
 
-fn words(words: &[u32]) -> Events {
-    let mut events = Events::default();
-    words.iter().for_each(|&w| events.word(w));
-    events
+fn words(words: &[u32]) -> Vec<Event> {
+    words.iter().map(|&word| Event::Word(word)).collect()
 }
 
-fn ticks(ticks: impl IntoIterator<Item = Tick>) -> Events {
-    let mut events = Events::default();
-    ticks.into_iter().for_each(|t| events.tick(&t));
-    events
+fn ticks(ticks: impl IntoIterator<Item = Tick>) -> Vec<Event> {
+    ticks.into_iter().map(|t| event(&t)).collect()
+}
+
+pub fn then(before: &[Event], more: &[Event]) -> Vec<Event> {
+    [before, more].concat()
 }
 
 /// A homing tick; the mode changes at standstill, in the start tick.
@@ -64,17 +64,17 @@ fn homing(position: i32, switches: u8) -> Tick {
 /// The rehearsed homing of method 23: started at 100, homed at 103.
 const ROUTE: [(i32, u8); 5] = [(100, 0), (110, HOM), (112, 0), (108, HOM), (103, 0)];
 
-fn route(n: usize) -> Events {
+fn route(n: usize) -> Vec<Event> {
     ticks(ROUTE[..n].iter().map(|&(position, switches)| homing(position, switches)))
 }
 
 pub fn rows() -> [Row; NAMES.len()] {
     let sheet = words(&SHEET);
-    let enabled = sheet.then(&ticks([SHUTDOWN, SHUTDOWN, ENABLE, ENABLE].map(|control| Tick { control, ..STILL })));
-    let homed = enabled.then(&route(5));
+    let enabled = then(&sheet, &ticks([SHUTDOWN, SHUTDOWN, ENABLE, ENABLE].map(|control| Tick { control, ..STILL })));
+    let homed = then(&enabled, &route(5));
     let many = |f: &dyn Fn(i32) -> Tick| ticks((0..100).map(f));
-    let row = |before: &Events, counted: Events| Row { before: before.clone(), counted };
-    let none = Events::default();
+    let row = |before: &[Event], counted: Vec<Event>| Row { before: before.to_vec(), counted };
+    let none = [];
     let gains = |i: i32| Gains { kp: 2.0, kd: 0.1, pd: 0.5, vd: 0.0, t: 0.1, p: i as f32 * 0.01, v: 0.2 };
     let position = |i: i32| Command::Position(i * 23 - 1150, 100);
     [
@@ -90,9 +90,9 @@ pub fn rows() -> [Row; NAMES.len()] {
         row(&homed, many(&|i| Tick { command: Command::Hybrid(gains(i)), ..STILL })),
         row(&homed, many(&|_| Tick { command: Command::Homing(100), ..STILL })),
         row(&enabled, route(1)),
-        row(&enabled.then(&route(1)), many(&|i| homing(101 + i, 0))),
-        row(&enabled.then(&route(1)), ticks([homing(110, HOM)])),
-        row(&enabled.then(&route(4)), ticks([homing(103, 0)])),
+        row(&then(&enabled, &route(1)), many(&|i| homing(101 + i, 0))),
+        row(&then(&enabled, &route(1)), ticks([homing(110, HOM)])),
+        row(&then(&enabled, &route(4)), ticks([homing(103, 0)])),
         row(&homed, ticks([Tick { alarm: 1 << 20, ..STILL }])),
     ]
 }

@@ -1,48 +1,38 @@
-//! Events and answers as plain words: the layout of `crates/records/specs/Words.antt`, for both sides.
+//! Events and answers as plain words, and the baseline's calls over them: the layout of `c/axis.h`, for both sides.
 
 use crate::baseline::{self, Answer, Axis, Command, Gains, Settings, Tick};
 
 /// An event is seven words and seven floats, an answer seven words.
 pub const WIDTH: usize = 7;
 
-#[derive(Clone, Default)]
-pub struct Events {
-    pub words: Vec<u32>,
-    pub floats: Vec<f32>,
+/// Words of a proved axis.
+pub const AXIS_WORDS: usize = 37;
+
+/// What an axis is fed with.
+#[derive(Clone)]
+pub enum Event {
+    Word(u32),
+    Tick([u32; WIDTH], [f32; WIDTH]),
 }
 
-impl Events {
-    pub fn len(&self) -> usize {
-        self.words.len() / WIDTH
-    }
-
-    pub fn word(&mut self, word: u32) {
-        self.words.extend([0, word, 0, 0, 0, 0, 0]);
-        self.floats.extend([0.0; WIDTH]);
-    }
-
-    pub fn tick(&mut self, t: &Tick) {
-        let mut floats = [0.0; WIDTH];
-        let (kind, request, target) = match t.command {
-            Command::Hybrid(g) => {
-                floats = [g.kp, g.kd, g.pd, g.vd, g.t, g.p, g.v];
-                (1, 0, 0)
-            }
-            Command::Homing(request) => (2, request, 0),
-            Command::Position(target, request) => (3, request, target),
-            Command::Torque(request) => (4, request, 0),
-            Command::Rest => (5, 0, 0),
-        };
-        let inputs = t.switches as u32 | (t.still as u32) << 4 | (t.set as u32) << 5;
-        self.words.extend([kind, t.control as u32, t.position as u32, inputs, t.alarm, request as i32 as u32, target as u32]);
-        self.floats.extend(floats);
-    }
-
-    pub fn then(&self, more: &Events) -> Events {
-        Events { words: [&self.words[..], &more.words].concat(), floats: [&self.floats[..], &more.floats].concat() }
-    }
+/// A tick as its words and floats.
+pub fn event(t: &Tick) -> Event {
+    let mut floats = [0.0; WIDTH];
+    let (command, request, target) = match t.command {
+        Command::Rest => (0, 0, 0),
+        Command::Hybrid(g) => {
+            floats = [g.kp, g.kd, g.pd, g.vd, g.t, g.p, g.v];
+            (1, 0, 0)
+        }
+        Command::Homing(request) => (2, request, 0),
+        Command::Position(target, request) => (3, request, target),
+        Command::Torque(request) => (4, request, 0),
+    };
+    let inputs = t.switches as u32 | (t.still as u32) << 4 | (t.set as u32) << 5;
+    Event::Tick([command, t.control as u32, t.position as u32, inputs, t.alarm, request as i32 as u32, target as u32], floats)
 }
 
+#[inline(always)]
 fn tick_in(e: &[u32; WIDTH], f: &[f32; WIDTH]) -> Tick {
     let request = (e[5] as i32).clamp(-32768, 32767) as i16;
     let command = match e[0] {
@@ -53,7 +43,7 @@ fn tick_in(e: &[u32; WIDTH], f: &[f32; WIDTH]) -> Tick {
         _ => Command::Rest,
     };
     Tick {
-        control: e[1] as u16,
+        control: u16::try_from(e[1]).unwrap_or(0),
         command,
         position: e[2] as i32,
         switches: e[3] as u8 & 15,
@@ -63,6 +53,7 @@ fn tick_in(e: &[u32; WIDTH], f: &[f32; WIDTH]) -> Tick {
     }
 }
 
+#[inline(always)]
 fn put(out: &mut [u32; WIDTH], a: &Answer) {
     *out = [
         a.number as u32,
@@ -75,37 +66,30 @@ fn put(out: &mut [u32; WIDTH], a: &Answer) {
     ];
 }
 
-/// What `axis_run` of the proved library does, over the baseline.
-///
-/// # Safety
-/// The pointers lead to as many elements as the lengths say.
+/// What `axis_fresh` of the proved library does, over the baseline.
 #[no_mangle]
 #[inline(never)]
-pub unsafe extern "C" fn baseline_run(
-    words: *const u32,
-    words_len: usize,
-    floats: *const f32,
-    floats_len: usize,
-    answers: *mut u32,
-    answers_len: usize,
-) -> usize {
-    let n = words_len.min(floats_len).min(answers_len) / WIDTH;
-    let words = std::slice::from_raw_parts(words as *const [u32; WIDTH], n);
-    let floats = std::slice::from_raw_parts(floats as *const [f32; WIDTH], n);
-    let answers = std::slice::from_raw_parts_mut(answers as *mut [u32; WIDTH], n);
-    let mut axis = Axis::FRESH;
-    for ((e, f), out) in words.iter().zip(floats).zip(answers) {
-        if e[0] == 0 {
-            let number = baseline::word(&mut axis, e[1]);
-            put(out, &Answer { number, ..Answer::default() });
-        } else {
-            put(out, &baseline::tick(&mut axis, &tick_in(e, f)));
-        }
-    }
-    n
+pub extern "C" fn baseline_fresh(axis: &mut Axis) {
+    *axis = Axis::FRESH;
 }
 
-/// What `axis_write` of the proved library does, over the baseline.
+/// What `axis_word` does.
+#[no_mangle]
+#[inline(never)]
+pub extern "C" fn baseline_word(axis: &mut Axis, word: u32) -> u32 {
+    baseline::word(axis, word) as u32
+}
+
+/// What `axis_tick` does.
+#[no_mangle]
+#[inline(never)]
+pub extern "C" fn baseline_tick(axis: &mut Axis, event: &[u32; WIDTH], floats: &[f32; WIDTH], answer: &mut [u32; WIDTH]) -> u32 {
+    let a = baseline::tick(axis, &tick_in(event, floats));
+    put(answer, &a);
+    a.number as u32
+}
+
+/// What `axis_write` does.
 ///
 /// # Safety
 /// The pointer leads to as many words as the length says.

@@ -97,6 +97,7 @@ impl Axis {
 }
 
 /// One settings word; 0, or why it is refused.
+#[inline(always)]
 pub fn word(axis: &mut Axis, word: u32) -> u8 {
     let number = axis.pending.take(word);
     if number != settings::COMPLETE {
@@ -117,6 +118,7 @@ fn quotient(g: &Gains, rated: u32) -> f32 {
 }
 
 /// One tick.
+#[inline(always)]
 pub fn tick(axis: &mut Axis, t: &Tick) -> Answer {
     if !axis.has_settings {
         return Answer { number: 8, ..Answer::default() };

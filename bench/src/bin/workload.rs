@@ -1,56 +1,72 @@
-//! Runs every row on both sides, compares the answers, and is itself run under callgrind, which counts the calls below by their callers.
-//! Standard input: a script of lines, whose words and ticks make the last row.
+//! Feeds every row to both sides, one call an event, and compares the answers. It is itself run under callgrind, which counts the calls below
+//! by their callers. Standard input: a script of lines, whose words and ticks make the last row.
 
 use std::hint::black_box;
 use std::io;
 
-use bench::baseline::{Limits, Settings};
+use bench::baseline::{Axis, Limits, Settings};
 use bench::lines::tick;
-use bench::rows::{rows, Row, FIELDS, SHEET};
-use bench::words::{baseline_run, baseline_write, Events};
+use bench::rows::{rows, then, Row, FIELDS, SHEET};
+use bench::words::{baseline_fresh, baseline_tick, baseline_word, baseline_write, event, Event, AXIS_WORDS, WIDTH};
 
+// As c/axis.h has them.
 #[link(name = "exports", kind = "static")]
 extern "C" {
-    fn axis_run(words: *const u32, words_len: usize, floats: *const f32, floats_len: usize, answers: *mut u32, answers_len: usize) -> usize;
-    fn axis_write(fields: *const u32, buffer: *mut u32, length: usize) -> u32;
+    fn axis_fresh(axis: *mut u32);
+    fn axis_word(axis: *mut u32, word: u32) -> u32;
+    fn axis_tick(axis: *mut u32, event: *const u32, floats: *const f32, answer: *mut u32) -> u32;
+    fn axis_write(fields: *const u32, buffer: *mut u32, length: u64) -> u32;
 }
 
-type Run = unsafe extern "C" fn(*const u32, usize, *const f32, usize, *mut u32, usize) -> usize;
+/// What lent words hold before a call.
+const LENT: u32 = 0xDEAD_BEEF;
 
+/// Feeds a fresh axis of each side with the events; the answers agree. One word more is lent than an axis has, and is left alone.
 #[inline(always)]
-fn call(run: Run, e: &Events) -> Vec<u32> {
-    let mut answers = vec![0; e.words.len()];
-    let n = unsafe { run(e.words.as_ptr(), e.words.len(), e.floats.as_ptr(), e.floats.len(), answers.as_mut_ptr(), answers.len()) };
-    assert_eq!(n, e.len());
-    answers
+fn feed(events: &[Event]) {
+    let mut lent = [LENT; AXIS_WORDS + 1];
+    let mut plain = Axis::FRESH;
+    let axis = lent.as_mut_ptr();
+    unsafe { axis_fresh(axis) };
+    baseline_fresh(&mut plain);
+    for event in events {
+        match event {
+            Event::Word(word) => assert_eq!(unsafe { axis_word(axis, *word) }, baseline_word(&mut plain, *word)),
+            Event::Tick(e, f) => {
+                let mut answers = [[LENT; WIDTH]; 2];
+                let [a, b] = &mut answers;
+                let numbers = [unsafe { axis_tick(axis, e.as_ptr(), f.as_ptr(), a.as_mut_ptr()) }, baseline_tick(&mut plain, e, f, b)];
+                assert_eq!(answers[0], answers[1]);
+                assert_eq!(numbers, [answers[0][0]; 2]);
+            }
+        }
+    }
+    assert_eq!(lent[AXIS_WORDS], LENT);
 }
 
-/// Runs what comes before, then that and what is counted; the answers agree in all.
-fn compare(row: &Row, before: impl Fn(Run, &Events) -> Vec<u32>, whole: impl Fn(Run, &Events) -> Vec<u32>) {
-    let all = row.before.then(&row.counted);
-    assert_eq!(before(axis_run, &row.before), before(baseline_run, &row.before));
-    assert_eq!(whole(axis_run, &all), whole(baseline_run, &all));
-}
-
-/// Two callers a row, so that callgrind tells the rows apart.
+/// Two callers a row, so that callgrind tells the rows apart: of what comes before, and of that and what is counted.
 macro_rules! callers {
     ($($row:ident)*) => {
         $(mod $row {
             use super::*;
             #[inline(never)]
-            pub fn before(run: Run, e: &Events) -> Vec<u32> {
+            pub fn before(events: &[Event]) {
                 black_box(concat!(stringify!($row), " before"));
-                call(run, e)
+                feed(events)
             }
             #[inline(never)]
-            pub fn whole(run: Run, e: &Events) -> Vec<u32> {
+            pub fn whole(events: &[Event]) {
                 black_box(concat!(stringify!($row), " whole"));
-                call(run, e)
+                feed(events)
             }
         })*
         fn run_rows(rows: &[Row]) {
             let mut rows = rows.iter();
-            $(compare(rows.next().unwrap(), $row::before, $row::whole);)*
+            $({
+                let row = rows.next().unwrap();
+                $row::before(&row.before);
+                $row::whole(&then(&row.before, &row.counted));
+            })*
             assert!(rows.next().is_none());
         }
     };
@@ -79,10 +95,10 @@ fn settings() -> Settings {
 #[inline(never)]
 fn write_both() {
     let s = settings();
-    let mut proved = [0xDEAD_BEEF; 20];
+    let mut proved = [LENT; 20];
     let mut plain = proved;
     let numbers = unsafe {
-        (axis_write(FIELDS.as_ptr(), proved.as_mut_ptr(), proved.len()), baseline_write(&s, plain.as_mut_ptr(), plain.len()))
+        (axis_write(FIELDS.as_ptr(), proved.as_mut_ptr(), proved.len() as u64), baseline_write(&s, plain.as_mut_ptr(), plain.len()))
     };
     assert_eq!(numbers, (0, 0));
     assert_eq!(proved, plain);
@@ -90,14 +106,14 @@ fn write_both() {
 }
 
 /// The words and ticks of a script; its other lines are left out.
-fn script() -> io::Result<Events> {
+fn script() -> io::Result<Vec<Event>> {
     use rival::lines::{next_text, read, Line};
-    let mut events = Events::default();
+    let mut events = Vec::new();
     let mut input = io::stdin().lock();
     while let Some(text) = next_text(&mut input)? {
         match read(&text) {
-            Ok(Line::Word(word)) => events.word(word),
-            Ok(Line::Tick(t)) => events.tick(&tick(&t)),
+            Ok(Line::Word(word)) => events.push(Event::Word(word)),
+            Ok(Line::Tick(t)) => events.push(event(&tick(&t))),
             _ => (),
         }
     }
@@ -106,7 +122,7 @@ fn script() -> io::Result<Events> {
 
 fn main() -> io::Result<()> {
     let mut rows = Vec::from(rows());
-    rows.push(Row { before: Events::default(), counted: script()? });
+    rows.push(Row { before: Vec::new(), counted: script()? });
     run_rows(&rows);
     write_both();
     for row in &rows {

@@ -8,9 +8,7 @@ use Rattle.settings.specs.Refusal.{numberOf}
 use Rattle.states.specs.States.{liveOf}
 use Rattle.modes.specs.Modes.{modeNumber}
 use Rattle.commands.specs.Commands.{wholeDemand}
-use Rattle.homing.specs.declared.Phase.{Phase}
-use Rattle.homing.specs.declared.Phase.the-variants.{Idle, Running, Homed, Failed}
-use Rattle.homing.specs.Places.{homedIn}
+use Rattle.homing.specs.Phase.{homedIn, runningIn, failedIn}
 use Rattle.torque.specs.Torque.{torqueOf}
 use Rattle.position.specs.declared.Followed.{Followed}
 use Rattle.position.specs.declared.Followed.the-variants.{Target, Nothing}
@@ -18,12 +16,10 @@ use Rattle.position.specs.Position.{positionOf, clampedOf}
 use Rattle.speed.specs.Speed.{speedOf}
 use Rattle.status.specs.declared.Flags.{Flags}
 use Rattle.status.specs.Statusword.{limitedOf, statuswordOf}
-use Rattle.motion.specs.declared.Motion.{Motion}
 use Rattle.ticks.specs.declared.Tick.{Tick}
-use Rattle.ticks.specs.declared.Moment.{Moment}
-use Rattle.ticks.specs.Moment.{momentOf}
+use Rattle.ticks.specs.Motion.{Motion}
+use Rattle.ticks.specs.Moment.{Moment, momentOf}
 use Rattle.answers.specs.declared.Answer.{Answer}
-use Rattle.answers.specs.declared.Answered.{Answered}
 
 -- "number, torque and all other answer fields 0"
 abbrev pub refusedAnswer : Refusal → Answer
@@ -33,18 +29,6 @@ abbrev pub isFollowing : Followed → Bool
 isFollowing (Target target) = true
 isFollowing Nothing = false
 
-abbrev pub runningIn : Phase → Bool
-runningIn Idle = false
-runningIn (Running place) = true
-runningIn Homed = false
-runningIn Failed = false
-
-abbrev pub failedIn : Phase → Bool
-failedIn Idle = false
-failedIn (Running place) = false
-failedIn Homed = false
-failedIn Failed = true
-
 abbrev pub flagsOf : Settings → Moment → Flags
 flagsOf s m =
     record {
@@ -52,7 +36,7 @@ flagsOf s m =
       running = runningIn (m .motion .phase);
       failed = failedIn (m .motion .phase);
       following = isFollowing (m .followed);
-      limited = limitedOf (m .view) (clampedOf s (m .followed));
+      limited = limitedOf (m .view .now) (clampedOf s (m .followed));
     }
 
 -- in Operation enabled or Quick stop active with a matched command
@@ -72,6 +56,10 @@ answerIn s t m =
     }
 
 -- a tick under settings: what it leaves, and its answer
+pub record Answered : Type 0 where
+  pub motion : Motion
+  pub answer : Answer
+
 unfoldable pub answeredIn : Settings → Motion → Tick → Answered
 answeredIn s a t =
     record {

@@ -1,110 +1,108 @@
-// One axis, fed by settings words and ticks.
+// One axis, fed by settings words and ticks. It lives in words that the caller lends, which `cells` alone reads and writes.
+mod running;
+
 use answers::Answer;
-use motion::Motion;
-use reader::Pending;
+use cells::Lent;
 use settings::Refusal;
-use settings::Settings;
 use settings::Verdict;
-use takeover::Active;
 use ticks::Tick;
+use words::KIND;
 ghost use mathlib.Core.Path.{_≡_};
-ghost use Rattle.homing.specs.Places.{homedIn};
-ghost use Rattle.axis.specs.Word.{wordOf};
-ghost use Rattle.axis.specs.Tick.{tickUnder, tickOf, freshAxis};
+ghost use mathlib.Core.Bool.{true, false};
+ghost use Prim.Native.Nat.{_<_, _≤_};
+ghost use Rattle.reader.specs.Read.{startOf, fieldOf, endOf};
+ghost use Rattle.cells.specs.Cells.{pendingIn};
+ghost use Rattle.axis.specs.Calls.{FreshCall, Takes, readIn, completedIn, WordCall, TickCall};
 
-pub struct Axis {
-    pub active: Active,
-    pub pending: Pending,
-    // The drive's state, homing, and the inputs that it remembers from the tick before.
-    pub motion: Motion,
+// A fresh axis: no settings, nothing pending, Not ready, homing idle.
+pub fn fresh(axis: &mut Lent)
+    ensures { λ _. ⌜ FreshCall (now (axis .exit)) ⌝ }
+{
+    cells::clear(axis);
 }
 
-pub struct Worded {
-    pub axis: Axis,
-    pub verdict: Verdict,
+// A start word begins afresh.
+fn start(axis: &mut Lent, layout: u32) -> Verdict
+    ensures { λ r. ⌜ Takes (now (axis .entry)) false (readIn (now (axis .entry)) (startOf layout)) (now (axis .exit)) r ⌝ }
+{
+    if kinds::field_ok(0, layout) {
+        cells::begin(axis);
+        Verdict::Accepted
+    } else {
+        cells::empty(axis);
+        Verdict::Refused(Refusal::UnknownLayout)
+    }
 }
 
-pub struct Ticked {
-    pub axis: Axis,
-    pub answer: Answer,
+// Keeps one word's data, of the kind that is due.
+fn store(axis: &mut Lent, kind: u32, value: u32) -> Verdict
+    requires { ⌜ (kind < 14) × (kind ≡ pendingIn (now axis) .count) ⌝ }
+    ensures { λ r. ⌜ Takes (now (axis .entry)) false (readIn (now (axis .entry)) (fieldOf (pendingIn (now (axis .entry))) kind value)) (now (axis .exit)) r ⌝ }
+{
+    if kinds::field_ok(kind, value) {
+        cells::keep(axis, value);
+        Verdict::Accepted
+    } else {
+        cells::empty(axis);
+        Verdict::Refused(Refusal::OutOfRange)
+    }
 }
 
-impl Axis {
-    // No settings, nothing pending, Not ready, homing idle.
-    pub fn fresh() -> Axis
-        ensures { λ r. ⌜ r ≡ freshAxis ⌝ }
-    {
-        Axis {
-            active: Active::Nothing,
-            pending: Pending::empty(),
-            motion: Motion::fresh(),
+// Complete settings come into force (01: takeover), unless the drive is live.
+fn complete(axis: &mut Lent, values: [u32; 14]) -> Verdict
+    ensures { λ r. ⌜ Takes (now (axis .entry)) true (completedIn (now (axis .entry)) values) (now (axis .exit)) r ⌝ }
+{
+    let state = cells::state(axis);
+    if states::is_live(state) {
+        Verdict::Refused(Refusal::DriveActive)
+    } else {
+        cells::activate(axis, values);
+        Verdict::Accepted
+    }
+}
+
+// An end word closes what is pending.
+fn finish(axis: &mut Lent, sum: u32) -> Verdict
+    requires { ⌜ 14 ≤ pendingIn (now axis) .count ⌝ }
+    ensures { λ r. ⌜ Takes (now (axis .entry)) true (readIn (now (axis .entry)) (endOf (pendingIn (now (axis .entry))) sum)) (now (axis .exit)) r ⌝ }
+{
+    let values = cells::values(axis);
+    let verdict = reader::close(values, sum);
+    cells::empty(axis);
+    match verdict {
+        Verdict::Accepted => complete(axis, values),
+        Verdict::Refused(refusal) => Verdict::Refused(refusal),
+    }
+}
+
+// One settings word.
+pub fn word(axis: &mut Lent, word: u32) -> Verdict
+    ensures { λ r. ⌜ WordCall (now (axis .entry)) word (now (axis .exit)) r ⌝ }
+{
+    let kind = word / KIND;
+    let value = word % KIND;
+    if kind == 0 {
+        return start(axis, value);
+    }
+    if kind == reader::due_kind(cells::count(axis)) {
+        if kind == 15 {
+            finish(axis, value)
+        } else {
+            store(axis, kind, value)
         }
+    } else {
+        cells::empty(axis);
+        Verdict::Refused(Refusal::OutOfSequence)
     }
+}
 
-    // One settings word.
-    pub fn word(self, word: u32) -> Worded
-        ensures { λ r. ⌜ r ≡ wordOf self word ⌝ }
-    {
-        let pending = self.pending;
-        let reading = pending.read(word);
-        let outcome = reading.outcome;
-        let active = self.active;
-        let motion = self.motion;
-        let taken = takeover::take(active, motion, outcome);
-        let pending = reading.pending;
-        let active = taken.active;
-        let motion = taken.motion;
-        let verdict = taken.verdict;
-        Worded {
-            axis: Axis {
-                active: active,
-                pending: pending,
-                motion: motion,
-            },
-            verdict: verdict,
-        }
-    }
-
-    // The axis goes on with what a tick leaves.
-    fn tick_under(mut self, s: Settings, t: Tick) -> Ticked
-        ensures { λ r. ⌜ r ≡ tickUnder (Active.Set s) self t ⌝ }
-    {
-        let before = self.motion;
-        let done = answers::to_tick(before, s, t);
-        let motion = done.motion;
-        let answer = done.answer;
-        self.motion = motion;
-        Ticked {
-            axis: self,
-            answer: answer,
-        }
-    }
-
-    // One tick; refused while no settings are in force.
-    pub fn tick(self, t: Tick) -> Ticked
-        ensures { λ r. ⌜ r ≡ tickOf self t ⌝ }
-    {
-        let active = self.active;
-        match active {
-            Active::Set(s) => self.tick_under(s, t),
-            Active::Nothing => Ticked {
-                axis: self,
-                answer: answers::refused(Refusal::NoSettings),
-            },
-        }
-    }
-
-    pub fn settings(self) -> Active
-        ensures { λ r. ⌜ r ≡ self .active ⌝ }
-    {
-        self.active
-    }
-
-    pub fn is_homed(self) -> bool
-        ensures { λ r. ⌜ r ≡ homedIn (self .motion .phase) ⌝ }
-    {
-        let motion = self.motion;
-        let phase = motion.phase;
-        motion::homed(phase)
+// One tick; refused while no settings are in force.
+pub fn tick(axis: &mut Lent, t: Tick) -> Answer
+    ensures { λ r. ⌜ TickCall (now (axis .entry)) t (now (axis .exit)) r ⌝ }
+{
+    if cells::is_active(axis) {
+        running::tick(axis, t)
+    } else {
+        answers::refused(Refusal::NoSettings)
     }
 }

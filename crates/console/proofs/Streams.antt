@@ -17,14 +17,14 @@ use Rattle.gather.proofs.Ends.{text-held}
 use Rattle.lines.specs.Lines.{lineOf}
 use Rattle.complaints.specs.Texts.{longText}
 use Rattle.session.specs.declared.Session.{Session}
-use Rattle.session.specs.Answering.{freshSession, counted, nextOf, textOf}
+use Rattle.session.specs.Answering.{Conversation, meant, freshConversation, counted, nextOf, textOf}
 use Rattle.console.specs.declared.Console.{Console}
 use Rattle.console.specs.Stream.{noneHeld, Stream, atFirst, afterEnded, afterLine, answerEnded, answerTo, fed, fedAll, finishedBy, Stands, Moved}
 
-abbrev at : Session → List ℕ → Stream
-at s line = record { session = s; line = line }
+abbrev at : Conversation → List ℕ → Stream
+at s line = record { conversation = s; line = line }
 
-past-lf : (ys : List ℕ) (s : Session) (line : List ℕ) → indexOf 10 ys < length ys
+past-lf : (ys : List ℕ) (s : Conversation) (line : List ℕ) → indexOf 10 ys < length ys
     → fedAll (at s line) ys ≡ fedAll (at (afterLine s (line ++ take (indexOf 10 ys) ys)) []) (drop (suc (indexOf 10 ys)) ys)
 unfolding indexOf indexAfter fed
 past-lf [] s line h = absurd (omega arith)
@@ -40,7 +40,7 @@ past-lf (y ∷ ys) s line h = go (eqb y 10) (past-lf ys s (line ++ y ∷ [])) h
     go false k h =
         k (omega arith) ∙ ap (λ (l : List ℕ). fedAll (at (afterLine s l) []) (drop (suc (indexOf 10 ys)) ys)) (append-assoc line (y ∷ []) (take (indexOf 10 ys) ys))
 
-no-lf : (ys : List ℕ) (s : Session) (line : List ℕ) → length ys ≤ indexOf 10 ys → fedAll (at s line) ys ≡ at s (line ++ take (indexOf 10 ys) ys)
+no-lf : (ys : List ℕ) (s : Conversation) (line : List ℕ) → length ys ≤ indexOf 10 ys → fedAll (at s line) ys ≡ at s (line ++ take (indexOf 10 ys) ys)
 unfolding indexOf indexAfter fed
 no-lf [] s line h = ap (at s) (sym (append-nil line))
 no-lf (y ∷ ys) s line h = go (eqb y 10) (no-lf ys s (line ++ y ∷ [])) h
@@ -71,30 +71,30 @@ module _ (chunk line line′ : List ℕ) (from next : ℕ) (c : Console) (held :
   pub line-open : endsIn chunk from ≡ false → Moved chunk from next line′ (record { session = c .session; held = held }) st
   line-open e =
       record {
-        stream = at (st .session) (st .line ++ partOf chunk from);
+        stream = at (st .conversation) (st .line ++ partOf chunk from);
         stands = record { session = before .session; held = holds-part };
         rest =
-            no-lf ys (st .session) (st .line) (ltb-false (indexOf 10 ys) (length ys) e)
-            ∙ ap (fedAll (at (st .session) (st .line ++ partOf chunk from))) (sym (drop-of-length-le chunk past));
+            no-lf ys (st .conversation) (st .line) (ltb-false (indexOf 10 ys) (length ys) e)
+            ∙ ap (fedAll (at (st .conversation) (st .line ++ partOf chunk from))) (sym (drop-of-length-le chunk past));
       }
     where
       past : length chunk ≤ next
       past = let l = ltb-false (indexOf 10 ys) (length ys) e in omega (arith, rw e at where-next, length-drop from chunk, l)
 
   -- the line ends in the chunk, and is answered
-  pub line-ends : (s : Session) (none : Held) → endsIn chunk from ≡ true → ((bs : List ℕ) → Holds line′ held bs → s ≡ afterLine (c .session) bs)
+  pub line-ends : (s : Session) (none : Held) → endsIn chunk from ≡ true → ((bs : List ℕ) → Holds line′ held bs → meant s ≡ afterLine (meant (c .session)) bs)
       → none ≡ noneHeld → Moved chunk from next line′ (record { session = s; held = none }) st
   line-ends s none e a n =
       record {
-        stream = at (afterLine (st .session) (st .line ++ partOf chunk from)) [];
+        stream = at (afterLine (st .conversation) (st .line ++ partOf chunk from)) [];
         stands =
             record {
-              session = a (st .line ++ partOf chunk from) holds-part ∙ ap (λ (x : Session). afterLine x (st .line ++ partOf chunk from)) (before .session);
+              session = a (st .line ++ partOf chunk from) holds-part ∙ ap (λ (x : Conversation). afterLine x (st .line ++ partOf chunk from)) (before .session);
               held = rw n (nothing-held line′);
             };
         rest =
-            past-lf ys (st .session) (st .line) (ltb-true (indexOf 10 ys) (length ys) e)
-            ∙ ap (fedAll (at (afterLine (st .session) (st .line ++ partOf chunk from)) []))
+            past-lf ys (st .conversation) (st .line) (ltb-true (indexOf 10 ys) (length ys) e)
+            ∙ ap (fedAll (at (afterLine (st .conversation) (st .line ++ partOf chunk from)) []))
             (drop-drop (suc (indexOf 10 ys)) from chunk ∙ ap (λ (k : ℕ). drop k chunk) past);
       }
     where
@@ -102,20 +102,20 @@ module _ (chunk line line′ : List ℕ) (from next : ℕ) (c : Console) (held :
       past = omega (arith, rw e at where-next)
 
 -- a line that is held is answered as its bytes ask
-pub text-answered : (s : Session) (line : List ℕ) (h : Held) (bs : List ℕ) (n : ℕ) → 256 ≤ length line → Holds line h bs → endedOf bs ≡ Text n
+pub text-answered : (s : Conversation) (line : List ℕ) (h : Held) (bs : List ℕ) (n : ℕ) → 256 ≤ length line → Holds line h bs → endedOf bs ≡ Text n
     → nextOf (counted s) (lineOf (take n line)) ≡ afterLine s bs
 text-answered s line h bs n r k e =
     ap (λ (text : List ℕ). nextOf (counted s) (lineOf text)) (text-held line h bs n r k e) ∙ sym (ap (afterEnded s bs) e)
 
-pub text-printed : (s : Session) (line : List ℕ) (h : Held) (bs : List ℕ) (n : ℕ) → 256 ≤ length line → Holds line h bs → endedOf bs ≡ Text n
+pub text-printed : (s : Conversation) (line : List ℕ) (h : Held) (bs : List ℕ) (n : ℕ) → 256 ≤ length line → Holds line h bs → endedOf bs ≡ Text n
     → textOf (counted s) (lineOf (take n line)) ≡ answerTo s bs
 text-printed s line h bs n r k e =
     ap (λ (text : List ℕ). textOf (counted s) (lineOf text)) (text-held line h bs n r k e) ∙ sym (ap (answerEnded s bs) e)
 
-pub long-printed : (s : Session) (bs : List ℕ) → endedOf bs ≡ TooLong → longText (counted s .lines) ≡ answerTo s bs
+pub long-printed : (s : Conversation) (bs : List ℕ) → endedOf bs ≡ TooLong → longText (counted s .lines) ≡ answerTo s bs
 long-printed s bs e = sym (ap (answerEnded s bs) e)
 
-pub long-answered : (s : Session) (bs : List ℕ) → endedOf bs ≡ TooLong → counted s ≡ afterLine s bs
+pub long-answered : (s : Conversation) (bs : List ℕ) → endedOf bs ≡ TooLong → counted s ≡ afterLine s bs
 long-answered s bs e = sym (ap (afterEnded s bs) e)
 
 -- one step after another
@@ -128,25 +128,25 @@ pub moved-through : {chunk line : List ℕ} {next : ℕ} {c : Console} {st : Str
     → Stands line c (fedAll st chunk)
 moved-through {chunk} {line} {c = c} h m = subst (Stands line c) (sym (m .rest ∙ ap (fedAll (m .stream)) (drop-of-length-le chunk h))) (m .stands)
 
-pub fresh-stands : (s : Session) (h : Held) → s ≡ freshSession → h ≡ noneHeld → (line : List ℕ) → Stands line (record { session = s; held = h }) atFirst
+pub fresh-stands : (s : Session) (h : Held) → meant s ≡ freshConversation → h ≡ noneHeld → (line : List ℕ) → Stands line (record { session = s; held = h }) atFirst
 fresh-stands s h e n line = record { session = e; held = rw n (nothing-held line) }
 
 -- at the input's end: something is held, or nothing
 module _ (line : List ℕ) (c : Console) (st : Stream) (room : 256 ≤ length line) (before : Stands line c st) where
-  pub line-left : (s : Session) → 0 < c .held .length → ((bs : List ℕ) → Holds line (c .held) bs → s ≡ afterLine (c .session) bs)
-      → s ≡ finishedBy (st .session) (st .line)
+  pub line-left : (s : Session) → 0 < c .held .length → ((bs : List ℕ) → Holds line (c .held) bs → meant s ≡ afterLine (meant (c .session)) bs)
+      → meant s ≡ finishedBy (st .conversation) (st .line)
   line-left s h a =
       a (st .line) (before .held)
-      ∙ ap (λ (x : Session). afterLine x (st .line)) (before .session)
+      ∙ ap (λ (x : Conversation). afterLine x (st .line)) (before .session)
       ∙ some (st .line) (omega (arith, h, before .held .count))
     where
-      some : (bs : List ℕ) → 0 < length bs → afterLine (st .session) bs ≡ finishedBy (st .session) bs
+      some : (bs : List ℕ) → 0 < length bs → afterLine (st .conversation) bs ≡ finishedBy (st .conversation) bs
       some [] k = absurd (omega arith)
       some (b ∷ bs) k = refl
 
-  pub nothing-left : c .held .length ≤ 0 → c .session ≡ finishedBy (st .session) (st .line)
+  pub nothing-left : c .held .length ≤ 0 → meant (c .session) ≡ finishedBy (st .conversation) (st .line)
   nothing-left h = before .session ∙ none (st .line) (omega (arith, h, room, before .held .count))
     where
-      none : (bs : List ℕ) → length bs ≤ 0 → st .session ≡ finishedBy (st .session) bs
+      none : (bs : List ℕ) → length bs ≤ 0 → st .conversation ≡ finishedBy (st .conversation) bs
       none [] k = refl
       none (b ∷ bs) k = absurd (omega arith)

@@ -12,53 +12,52 @@ use Rattle.gather.specs.declared.Held.{Held}
 use Rattle.gather.specs.Lines.{Holds, endedOf}
 use Rattle.lines.specs.Lines.{lineOf}
 use Rattle.complaints.specs.Texts.{longText}
-use Rattle.session.specs.declared.Session.{Session}
-use Rattle.session.specs.Answering.{freshSession, counted, nextOf, textOf}
+use Rattle.session.specs.Answering.{Conversation, meant, freshConversation, counted, nextOf, textOf}
 use Rattle.console.specs.declared.Console.{Console}
 
 abbrev pub noneHeld : Held
 noneHeld = record { length = 0; over = false }
 
--- the session after the lines that have ended, and the bytes since then
+-- the conversation after the lines that have ended, and the bytes since then
 pub record Stream : Type 0 where
-  pub session : Session
+  pub conversation : Conversation
   pub line : List ℕ
 
 abbrev pub atFirst : Stream
-atFirst = record { session = freshSession; line = [] }
+atFirst = record { conversation = freshConversation; line = [] }
 
-abbrev pub afterEnded : Session → List ℕ → Ended → Session
+abbrev pub afterEnded : Conversation → List ℕ → Ended → Conversation
 afterEnded s bs (Text n) = nextOf (counted s) (lineOf (take n bs))
 afterEnded s bs TooLong = counted s
 
 -- after a line of these bytes
-abbrev pub afterLine : Session → List ℕ → Session
+abbrev pub afterLine : Conversation → List ℕ → Conversation
 afterLine s bs = afterEnded s bs (endedOf bs)
 
-abbrev pub answerEnded : Session → List ℕ → Ended → List ℕ
+abbrev pub answerEnded : Conversation → List ℕ → Ended → List ℕ
 answerEnded s bs (Text n) = textOf (counted s) (lineOf (take n bs))
 answerEnded s bs TooLong = longText (counted s .lines)
 
 -- and its answer
-abbrev pub answerTo : Session → List ℕ → List ℕ
+abbrev pub answerTo : Conversation → List ℕ → List ℕ
 answerTo s bs = answerEnded s bs (endedOf bs)
 
 -- one byte more; "a line ends with LF"
 unfoldable pub fed : Stream → ℕ → Stream
-fed st b = cond (eqb b 10) (record { session = afterLine (st .session) (st .line); line = [] }) (record { session = st .session; line = st .line ++ b ∷ [] })
+fed st b = cond (eqb b 10) (record { conversation = afterLine (st .conversation) (st .line); line = [] }) (record { conversation = st .conversation; line = st .line ++ b ∷ [] })
 
 abbrev pub fedAll : Stream → List ℕ → Stream
 fedAll st [] = st
 fedAll st (b ∷ bs) = fedAll (fed st b) bs
 
 -- "A line ends with LF or with the end of the input": what stands after the last LF, if anything, is a line
-abbrev pub finishedBy : Session → List ℕ → Session
+abbrev pub finishedBy : Conversation → List ℕ → Conversation
 finishedBy s [] = s
 finishedBy s (b ∷ bs) = afterLine s (b ∷ bs)
 
 -- a console, with its buffer, stands where a stream does
 pub record Stands (line : List ℕ) (c : Console) (st : Stream) : Type 0 where
-  pub session : c .session ≡ st .session
+  pub session : meant (c .session) ≡ st .conversation
   pub held : Holds line (c .held) (st .line)
 
 -- a console stands at next where the stream would, had it been fed the chunk so far

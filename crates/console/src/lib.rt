@@ -10,6 +10,7 @@ ghost use mathlib.Core.List.{List};
 ghost use mathlib.Core.Path.{_≡_};
 ghost use lib.ListN.{length, take};
 ghost use Rattle.gather.specs.Lines.{Holds};
+ghost use Rattle.session.specs.Answering.{meant};
 ghost use Rattle.console.specs.Stream.{noneHeld, Stream, atFirst, afterLine, answerTo, fedAll, finishedBy, Stands, Moved};
 
 // A session, and the line that has not ended yet.
@@ -52,8 +53,8 @@ fn fresh() -> Console
 // What a line that has ended is answered, on the page.
 fn reply(session: Session, line: &[u8], held: Held, out: &mut [u8]) -> Answered
     ensures { λ r. ⌜ r .length ≤ length (now (out .exit)) ⌝ }
-    ensures { λ r. ⌜ ((bs : List ℕ) → 256 ≤ length (now (line .entry)) → Holds (now (line .entry)) held bs → r .session ≡ afterLine session bs) ⌝ }
-    ensures { λ r. ⌜ ((bs : List ℕ) → 256 ≤ length (now (line .entry)) → 512 ≤ length (now (out .entry)) → Holds (now (line .entry)) held bs → take (r .length) (now (out .exit)) ≡ answerTo session bs) ⌝ }
+    ensures { λ r. ⌜ ((bs : List ℕ) → 256 ≤ length (now (line .entry)) → Holds (now (line .entry)) held bs → meant (r .session) ≡ afterLine (meant session) bs) ⌝ }
+    ensures { λ r. ⌜ ((bs : List ℕ) → 256 ≤ length (now (line .entry)) → 512 ≤ length (now (out .entry)) → Holds (now (line .entry)) held bs → take (r .length) (now (out .exit)) ≡ answerTo (meant session) bs) ⌝ }
 {
     match gather::end(line, held) {
         Ended::Text(n) => session.line(&line[..n], out),
@@ -63,7 +64,7 @@ fn reply(session: Session, line: &[u8], held: Held, out: &mut [u8]) -> Answered
 
 // Answers a line that has ended.
 fn answer(session: Session, line: &[u8], held: Held) -> Session
-    ensures { λ r. ⌜ ((bs : List ℕ) → 256 ≤ length (now (line .entry)) → Holds (now (line .entry)) held bs → r ≡ afterLine session bs) ⌝ }
+    ensures { λ r. ⌜ ((bs : List ℕ) → 256 ≤ length (now (line .entry)) → Holds (now (line .entry)) held bs → meant r ≡ afterLine (meant session) bs) ⌝ }
 {
     let mut out = [0u8; 512];
     let answered = reply(session, line, held, &mut out);
@@ -124,7 +125,7 @@ fn read_once(console: Console, line: &mut [u8]) -> Turn {
 
 // The last line may have no end.
 fn finish(console: Console, line: &[u8]) -> Session
-    ensures { λ r. ⌜ ((st : Stream) → 256 ≤ length (now (line .entry)) → Stands (now (line .entry)) console st → r ≡ finishedBy (st .session) (st .line)) ⌝ }
+    ensures { λ r. ⌜ ((st : Stream) → 256 ≤ length (now (line .entry)) → Stands (now (line .entry)) console st → meant r ≡ finishedBy (st .conversation) (st .line)) ⌝ }
 {
     let session = console.session;
     let held = console.held;

@@ -18,14 +18,12 @@ use Rattle.words.specs.Encode.{valuesOf, checksumOf, wordsFrom, wordsOf}
 use Rattle.words.specs.Decode.{settingsOf}
 use Rattle.words.proofs.Words.{length-words, length-sealed}
 use Rattle.words.proofs.Widths.{Below, values-below}
-use Rattle.reader.specs.declared.Outcome.{Outcome}
-use Rattle.reader.specs.declared.Outcome.the-variants.{Refused, Stored, Complete}
+use Rattle.reader.specs.Pending.{Outcome, Refused, Stored, Complete}
 use Rattle.reader.specs.Read.{readOf}
 use Rattle.roundtrip.specs.Stream.{pendingAfter, EndsIn}
 use Rattle.roundtrip.proofs.Values.{values-read}
 use Rattle.roundtrip.proofs.Completed.{completes, completed}
-use Rattle.takeover.specs.declared.Active.{Active}
-use Rattle.takeover.specs.declared.Active.the-variants.{Nothing, Set}
+use Rattle.rules.specs.Axis.{Active, Nothing, Set}
 use Rattle.demands.specs.Activation.{lastFifteen, carried, completedBy}
 
 same-refl : (xs : List ℕ) → sameWords xs xs ≡ true

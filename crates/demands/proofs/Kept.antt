@@ -5,23 +5,19 @@ use mathlib.Core.Path.{_≡_, refl, sym, ap, _∙_, subst}
 use mathlib.Core.Bool.{Bool, true, false, cond}
 use mathlib.Core.List.{List, [], _∷_, _++_}
 use Rattle.settings.specs.declared.Settings.{Settings}
-use Rattle.reader.specs.declared.Pending.{Pending}
-use Rattle.reader.specs.declared.Outcome.{Outcome}
-use Rattle.reader.specs.declared.Outcome.the-variants.{Refused, Stored, Complete}
+use Rattle.reader.specs.Pending.{Pending, Outcome, Refused, Stored, Complete}
 use Rattle.reader.specs.Read.{emptyPending, readOf}
 use Rattle.states.specs.States.{liveOf}
 use Rattle.roundtrip.specs.Stream.{pendingAfter}
 use Rattle.roundtrip.proofs.Completed.{from-append}
-use Rattle.takeover.specs.declared.Active.{Active}
-use Rattle.takeover.specs.declared.Active.the-variants.{Nothing, Set}
-use Rattle.axis.specs.declared.Axis.{Axis}
+use Rattle.rules.specs.Axis.{Active, Nothing, Set, Axis, freshAxis}
 use Rattle.ticks.specs.declared.Tick.{Tick}
 use Rattle.demands.specs.Events.{Event, word, tick}
 use Rattle.ticks.specs.Rules.{modeAfter, stateAfter, startsIn, viewOf}
-use Rattle.axis.specs.Word.{withPending, taken, wordOf}
+use Rattle.rules.specs.Word.{withPending, taken, wordOf}
 use Rattle.ticks.specs.Moment.{newMode, newState, newPhase}
 use Rattle.answers.specs.Answer.{answeredIn}
-use Rattle.axis.specs.Tick.{gone, tickUnder, tickOf, freshAxis}
+use Rattle.rules.specs.Tick.{gone, tickUnder, tickOf}
 use Rattle.demands.specs.Replies.{leftBy, axisFrom, axisOf}
 use Rattle.demands.specs.Activation.{completedBy}
 use Rattle.demands.specs.Known.{Known, atFirst, activates, afterWord, sinceAfter, afterTick, next, knownFrom, known}

@@ -6,13 +6,10 @@ use mathlib.Core.List.{List, [], _∷_, _++_}
 use Prim.Native.Nat.{ℕ}
 use Rattle.settings.specs.declared.Settings.{Settings}
 use Rattle.legs.specs.declared.events.View.{View}
-use Rattle.homing.specs.declared.Phase.{Phase}
-use Rattle.homing.specs.declared.Phase.the-variants.{Idle}
+use Rattle.homing.specs.Phase.{Phase, Idle}
 use Rattle.homing.specs.Places.{startOf, stepOf, stepAll}
 use Rattle.roundtrip.specs.Stream.{pendingAfter}
-use Rattle.takeover.specs.declared.Active.{Active}
-use Rattle.takeover.specs.declared.Active.the-variants.{Nothing, Set}
-use Rattle.axis.specs.declared.Axis.{Axis}
+use Rattle.rules.specs.Axis.{Active, Nothing, Set, Axis}
 use Rattle.demands.specs.Known.{Known, Since, never, start, seen}
 
 -- the phase that a start and the ticks after it lead to

@@ -12,21 +12,16 @@ use Rattle.settings.specs.declared.Refusal.the-variants.{OutOfSequence, Unknown
 use Rattle.settings.specs.Refusal.{numberOf, verdictNumber, Test, firstOf}
 use Rattle.words.specs.Word.{kindOf}
 use Rattle.words.specs.Encode.{checksumOf}
-use Rattle.reader.specs.declared.Pending.{Pending}
-use Rattle.reader.specs.declared.Reading.{Reading}
-use Rattle.reader.specs.declared.Outcome.{Outcome}
-use Rattle.reader.specs.declared.Outcome.the-variants.{Refused, Stored, Complete}
+use Rattle.reader.specs.Pending.{Pending, Reading, Outcome, Refused, Stored, Complete}
 use Rattle.reader.specs.Read.{readOf, outcomeNumber}
 use Rattle.reader.specs.Cases.{isEnd}
 use Rattle.reader.specs.Cases as reader
 use Rattle.reader.proofs.Numbers.{numbers}
 use Rattle.reader.proofs.Accepted.{AcceptedBy, begins, keeps, closes, accepted-by}
 use Rattle.states.specs.States.{liveOf}
-use Rattle.takeover.specs.declared.Active.{Active}
-use Rattle.takeover.specs.declared.Active.the-variants.{Nothing, Set}
-use Rattle.axis.specs.declared.Axis.{Axis}
-use Rattle.axis.specs.Word.{withPending, taken, wordOf}
-use Rattle.axis.specs.Tick.{tickUnder, tickOf}
+use Rattle.rules.specs.Axis.{Active, Nothing, Set, Axis}
+use Rattle.rules.specs.Word.{withPending, taken, wordOf}
+use Rattle.rules.specs.Tick.{tickUnder, tickOf}
 use Rattle.answers.specs.Answer.{answerIn, answeredIn}
 use Rattle.demands.specs.Numbers.{liveTest, testsOf, WordNumbers, tickNumber, TickNumbers}
 

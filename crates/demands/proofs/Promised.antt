@@ -11,20 +11,18 @@ use Rattle.modes.specs.declared.Mode.{Mode}
 use Rattle.modes.specs.declared.Mode.the-variants.{None, Hybrid, Homing, Position, Torque}
 use Rattle.modes.specs.Modes.{isMode}
 use Rattle.commands.specs.Commands.{wholeDemand}
-use Rattle.homing.specs.Places.{homedIn}
+use Rattle.homing.specs.Phase.{homedIn}
 use Rattle.homing.proofs.Simulation.{homing-iff}
 use Rattle.torque.proofs.Within.{bounded, zero-when-off}
 use Rattle.status.specs.Statusword.{statuswordOf}
 use Rattle.status.proofs.Bits.{bit-8-homed, bit-12-homed}
-use Rattle.takeover.specs.declared.Active.{Active}
-use Rattle.takeover.specs.declared.Active.the-variants.{Nothing, Set}
-use Rattle.axis.specs.declared.Axis.{Axis}
+use Rattle.rules.specs.Axis.{Active, Nothing, Set, Axis, freshAxis}
 use Rattle.ticks.specs.declared.Tick.{Tick}
 use Rattle.demands.specs.Events.{Event, tick}
 use Rattle.ticks.specs.Rules.{demandIn}
 use Rattle.ticks.specs.Moment.{newMode, newState, newPhase, momentOf}
 use Rattle.answers.specs.Answer.{flagsOf, torqueOn, answerIn, answeredIn}
-use Rattle.axis.specs.Tick.{gone, tickUnder, tickOf, freshAxis}
+use Rattle.rules.specs.Tick.{gone, tickUnder, tickOf}
 use Rattle.demands.specs.Replies.{leftBy, axisFrom, repliesFrom, axisOf, replies}
 use Rattle.demands.specs.Known.{Known, Since, never, start, afterTick, next, known, CompletesSince, RouteCompleted}
 use Rattle.demands.specs.Demand.{Judged, TickPromise, Demand3}

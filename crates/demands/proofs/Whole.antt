@@ -13,10 +13,7 @@ use Rattle.checks.proofs.Numbers.{passes}
 use Rattle.words.specs.Word.{kindOf, wordOf as wordBy}
 use Rattle.words.specs.Encode.{valuesOf, checksumOf, wordsFrom, wordsOf}
 use Rattle.words.proofs.Widths.{Below, values-below}
-use Rattle.reader.specs.declared.Pending.{Pending}
-use Rattle.reader.specs.declared.Reading.{Reading}
-use Rattle.reader.specs.declared.Outcome.{Outcome}
-use Rattle.reader.specs.declared.Outcome.the-variants.{Refused, Stored, Complete}
+use Rattle.reader.specs.Pending.{Pending, Reading, Outcome, Refused, Stored, Complete}
 use Rattle.reader.specs.Read.{emptyPending, readOf, outcomeNumber}
 use Rattle.reader.proofs.Accepted.{AcceptedBy, ReadBy, refuses, accepted, begins, keeps, closes, read-by, accepted-by}
 use Rattle.states.specs.States.{liveOf}
@@ -24,13 +21,10 @@ use Rattle.roundtrip.specs.ReadInto.{ReadInto, last, more}
 use Rattle.roundtrip.specs.Stream.{pendingFrom}
 use Rattle.roundtrip.proofs.There.{there}
 use Rattle.roundtrip.proofs.Completed.{last-completes, snoc-inj}
-use Rattle.takeover.specs.declared.Active.{Active}
-use Rattle.takeover.specs.declared.Active.the-variants.{Nothing, Set}
-use Rattle.axis.specs.declared.Axis.{Axis}
+use Rattle.rules.specs.Axis.{Active, Nothing, Set, Axis, Worded}
 use Rattle.ticks.specs.declared.Tick.{Tick}
-use Rattle.axis.specs.declared.Worded.{Worded}
-use Rattle.axis.specs.Word.{withPending, taken, wordOf}
-use Rattle.axis.specs.Tick.{tickUnder, tickOf}
+use Rattle.rules.specs.Word.{withPending, taken, wordOf}
+use Rattle.rules.specs.Tick.{tickUnder, tickOf}
 use Rattle.answers.specs.Answer.{answerIn, answeredIn}
 use Rattle.demands.specs.Events.{Event, word, tick}
 use Rattle.demands.specs.Replies.{leftBy, axisFrom, repliesFrom}

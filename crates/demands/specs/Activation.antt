@@ -12,8 +12,7 @@ use Rattle.checks.specs.Check.{acceptable}
 use Rattle.words.specs.Word.{dataOf, sameWords}
 use Rattle.words.specs.Encode.{wordsOf}
 use Rattle.words.specs.Decode.{settingsOf}
-use Rattle.takeover.specs.declared.Active.{Active}
-use Rattle.takeover.specs.declared.Active.the-variants.{Nothing, Set}
+use Rattle.rules.specs.Axis.{Active, Nothing, Set}
 
 abbrev pub lastFifteen : List ℕ → List ℕ
 lastFifteen ws = drop (length ws - 15) ws

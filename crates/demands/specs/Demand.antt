@@ -16,8 +16,7 @@ use Rattle.states.specs.States.{liveOf}
 use Rattle.modes.specs.declared.Mode.the-variants.{Homing}
 use Rattle.modes.specs.Modes.{isMode}
 use Rattle.torque.specs.Bounded.{Bounded}
-use Rattle.takeover.specs.declared.Active.{Active}
-use Rattle.takeover.specs.declared.Active.the-variants.{Nothing, Set}
+use Rattle.rules.specs.Axis.{Active, Nothing, Set}
 use Rattle.ticks.specs.declared.Tick.{Tick}
 use Rattle.answers.specs.declared.Answer.{Answer}
 use Rattle.demands.specs.Events.{Event, tick}

@@ -15,10 +15,9 @@ use Rattle.counts.specs.Divide.{floorDiv}
 use Rattle.counts.specs.Clamp.{clamped}
 use Rattle.ranges.specs.Range.{methodOk}
 use Rattle.gears.specs.Gear.{gearedOf, inReach}
-use Rattle.checks.specs.Check.{limitsVerdict}
+use Rattle.checks.specs.Check.{limitsVerdict, acceptable}
 use Rattle.settings.specs.Refusal.{verdictNumber}
 use Rattle.settings.specs.Ranges.{inRange}
-use Rattle.checks.specs.Check.{acceptable}
 use Rattle.words.specs.Word.{sameWords}
 use Rattle.words.specs.Encode.{valuesOf, total, checksumOf, wordsFrom, wordsOf}
 use Rattle.words.specs.Decode.{settingsOf}
@@ -41,15 +40,14 @@ use Rattle.torque.specs.Torque.{torqueOf}
 use Rattle.position.specs.Position.{placeOf}
 use Rattle.status.specs.Statusword.{statuswordOf}
 use Rattle.demands.specs.Activation.{completedBy}
-use Rattle.takeover.specs.declared.Active.{Active}
-use Rattle.takeover.specs.declared.Active.the-variants.{Nothing, Set}
+use Rattle.rules.specs.Axis.{Active, Nothing, Set}
 use Rattle.demands.specs.Events.{Event, word, tick}
 use Rattle.demands.specs.Known.{Since, never, known}
 use Rattle.demands.specs.Known.{start as begun}
 use Rattle.answers.specs.Answer.{answerIn, answeredIn}
-use Rattle.axis.specs.Word.{wordOf}
+use Rattle.rules.specs.Word.{wordOf}
 use Rattle.ticks.specs.Moment.{newPhase}
-use Rattle.axis.specs.Tick.{tickOf}
+use Rattle.rules.specs.Tick.{tickOf}
 use Rattle.demands.specs.Replies.{Reply, said, answered, replies}
 
 -- sheet S, and S with another method and rated torque

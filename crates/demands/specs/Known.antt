@@ -16,8 +16,7 @@ use Rattle.legs.specs.declared.events.View.{View}
 use Rattle.legs.specs.Events.{allOff}
 use Rattle.legs.specs.Routes.{planOf}
 use Rattle.homing.specs.Complete.{CompletesPlan}
-use Rattle.takeover.specs.declared.Active.{Active}
-use Rattle.takeover.specs.declared.Active.the-variants.{Nothing, Set}
+use Rattle.rules.specs.Axis.{Active, Nothing, Set}
 use Rattle.ticks.specs.declared.Tick.{Tick}
 use Rattle.ticks.specs.Rules.{modeAfter, stateAfter, startsIn, viewOf}
 use Rattle.demands.specs.Activation.{completedBy}

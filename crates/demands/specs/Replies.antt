@@ -2,11 +2,11 @@
 -- Assumes nothing.
 use mathlib.Core.List.{List, [], _∷_}
 use Rattle.settings.specs.declared.Verdict.{Verdict}
-use Rattle.axis.specs.declared.Axis.{Axis}
+use Rattle.rules.specs.Axis.{Axis, freshAxis}
 use Rattle.answers.specs.declared.Answer.{Answer}
 use Rattle.demands.specs.Events.{Event, word, tick}
-use Rattle.axis.specs.Word.{wordOf}
-use Rattle.axis.specs.Tick.{tickOf, freshAxis}
+use Rattle.rules.specs.Word.{wordOf}
+use Rattle.rules.specs.Tick.{tickOf}
 
 pub data Reply : Type 0 where
   said : Verdict → Reply

@@ -10,16 +10,15 @@ use Rattle.settings.specs.declared.Refusal.the-variants.{NoSettings}
 use Rattle.settings.specs.Refusal.{verdictNumber}
 use Rattle.checks.specs.Check.{acceptable}
 use Rattle.words.specs.Encode.{wordsOf}
-use Rattle.reader.specs.declared.Pending.{Pending}
+use Rattle.reader.specs.Pending.{Pending}
 use Rattle.reader.specs.Read.{emptyPending}
 use Rattle.states.specs.States.{liveOf}
-use Rattle.motion.specs.Motion.{idled}
-use Rattle.takeover.specs.declared.Active.the-variants.{Set}
-use Rattle.axis.specs.declared.Axis.{Axis}
+use Rattle.ticks.specs.Motion.{idled}
+use Rattle.rules.specs.Axis.{Set, Axis}
 use Rattle.ticks.specs.declared.Tick.{Tick}
 use Rattle.answers.specs.Answer.{refusedAnswer}
-use Rattle.axis.specs.Word.{withPending, wordOf}
-use Rattle.axis.specs.Tick.{tickOf}
+use Rattle.rules.specs.Word.{withPending, wordOf}
+use Rattle.rules.specs.Tick.{tickOf}
 use Rattle.demands.specs.Events.{Event, word, tick}
 use Rattle.demands.specs.Replies.{Reply, said, answered, axisFrom, repliesFrom}
 

@@ -6,13 +6,13 @@ use mathlib.Core.Option.{Option, none, some}
 use Prim.Native.Nat.{ℕ, _+_}
 use native.Mathlib.Omega.{arith}
 use borrow.Author.Tests.{eq-eqb, ne-eqb}
-use Rattle.homing.specs.declared.Phase.the-variants.{Idle, Running, Failed}
 use Rattle.legs.specs.declared.events.View.{View}
 use Rattle.legs.specs.declared.Leg.{Leg}
 use Rattle.legs.specs.declared.Found.the-variants as found
 use Rattle.legs.specs.Events.{eventCounts, limitCounts}
 use Rattle.legs.specs.Routes.{Row, rowOf}
 use Rattle.legs.specs.Places.{legAt}
+use Rattle.homing.specs.Phase.{Idle, Running, Failed}
 use Rattle.homing.specs.Places.{entered, limitAt, runningOf, startIn, startOf}
 use Rattle.legs.proofs.Rows.{between, known, isRow, turn-rule, known-rule, unknown}
 

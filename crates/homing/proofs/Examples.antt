@@ -13,7 +13,8 @@ use Rattle.legs.specs.Events.{allOff, eventCounts, limitCounts}
 use Rattle.legs.specs.Routes.{rowOf, planOf}
 use Rattle.homing.specs.Complete.{CompletesPlan}
 use Rattle.legs.specs.Places.{legAt}
-use Rattle.homing.specs.Places.{entered, limitAt, runningOf, startOf, stepAll, homedIn}
+use Rattle.homing.specs.Phase.{homedIn}
+use Rattle.homing.specs.Places.{entered, limitAt, runningOf, startOf, stepAll}
 use Rattle.homing.proofs.Simulation.{homing-iff}
 
 abbrev off : Switches

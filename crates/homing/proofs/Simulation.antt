@@ -10,8 +10,6 @@ use Prim.Native.Nat.{ℕ, _+_, _<_}
 use native.Mathlib.Omega.{arith}
 use lib.ListN.{length, getD}
 use borrow.Author.Tests.{ne-eqb}
-use Rattle.homing.specs.declared.Phase.{Phase}
-use Rattle.homing.specs.declared.Phase.the-variants.{Idle, Running, Homed, Failed}
 use Rattle.legs.specs.declared.events.View.{View}
 use Rattle.legs.specs.declared.Leg.{Leg}
 use Rattle.legs.specs.declared.Found.the-variants as found
@@ -20,7 +18,8 @@ use Rattle.legs.specs.Routes.{Row, rowOf, Plan, later, planFrom, planOf}
 use Rattle.homing.specs.Complete.{CompletesPlan}
 use Rattle.homing.specs.Progress.{Progress, idle, failed, homed, running, begin, onLimit, advance, advanceAll, started, isHomed}
 use Rattle.legs.specs.Places.{slot, rest, placesOf, legAt, hasTurn, turns}
-use Rattle.homing.specs.Places.{entered, limitAt, runningOf, startIn, startOf, stepOf, stepAll, homedIn}
+use Rattle.homing.specs.Phase.{Phase, Idle, Running, Homed, Failed, homedIn}
+use Rattle.homing.specs.Places.{entered, limitAt, runningOf, startIn, startOf, stepOf, stepAll}
 use Rattle.homing.proofs.Completion.{homed-iff, idle-stays}
 use Rattle.legs.proofs.Rows.{row-roomy}
 

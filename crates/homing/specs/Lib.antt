@@ -1,3 +1,4 @@
 pub mod Complete
 pub mod Progress
+pub mod Phase
 pub mod Places

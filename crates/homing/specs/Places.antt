@@ -1,12 +1,10 @@
--- Homing by place: what homing holds is a number, the place of the running leg in its method's row.
+-- Homing by place: of a running leg, homing holds its place in its method's row.
 -- Assumes nothing.
 use Prim.Native.Nat.{ℕ, _+_}
-use mathlib.Core.Bool.{Bool, true, false, cond, _&&_}
+use mathlib.Core.Bool.{Bool, cond, _&&_}
 use mathlib.Core.List.{List, [], _∷_}
 use mathlib.Core.Option.{Option, none, some}
 use lib.Dec.{eqb}
-use Rattle.homing.specs.declared.Phase.{Phase}
-use Rattle.homing.specs.declared.Phase.the-variants.{Idle, Running, Homed, Failed}
 use Rattle.legs.specs.declared.events.View.{View}
 use Rattle.legs.specs.declared.Leg.{Leg}
 use Rattle.legs.specs.declared.Found.{Found}
@@ -14,6 +12,7 @@ use Rattle.legs.specs.declared.Found.the-variants as found
 use Rattle.legs.specs.Events.{eventCounts, limitCounts}
 use Rattle.legs.specs.Routes.{Row, rowOf}
 use Rattle.legs.specs.Places.{turnPlace, homePlace, legAt, hasTurn}
+use Rattle.homing.specs.Phase.{Phase, Idle, Running, Homed, Failed}
 
 abbrev pub enteredAt : ℕ → Found → Phase
 enteredAt place (found.Leg l) = Running place
@@ -51,12 +50,18 @@ stepOf (Running place) method v = runningOf method place v
 stepOf Homed method v = Homed
 stepOf Failed method v = Failed
 
+-- what a later tick that does not keep homing leaves: "A later tick with bit 4 clear, homing not matched or another state makes homing
+-- idle."
+abbrev pub stoppedAt : Found → Phase
+stoppedAt (found.Leg l) = Idle
+stoppedAt found.Nothing = Failed
+
+abbrev pub stoppedOf : Phase → ℕ → Phase
+stoppedOf Idle method = Idle
+stoppedOf (Running place) method = stoppedAt (legAt method place)
+stoppedOf Homed method = Homed
+stoppedOf Failed method = Failed
+
 abbrev pub stepAll : Phase → ℕ → List View → Phase
 stepAll p method [] = p
 stepAll p method (v ∷ vs) = stepAll (stepOf p method v) method vs
-
-abbrev pub homedIn : Phase → Bool
-homedIn Idle = false
-homedIn (Running place) = false
-homedIn Homed = true
-homedIn Failed = false

@@ -3,50 +3,52 @@ use legs::Found;
 use legs::events;
 use legs::events::View;
 ghost use mathlib.Core.Path.{_≡_};
-ghost use Rattle.homing.specs.Places.{entered, limitAt, runningOf, startOf, stepOf};
+ghost use Rattle.homing.specs.Phase.{phaseOf, homedIn, runningIn, failedIn};
+ghost use Rattle.homing.specs.Places.{entered, limitAt, runningOf, startOf, stepOf, stoppedOf};
 
-// Where homing stands. Running holds the running leg's place in its method's row.
-pub enum Phase {
-    Idle,
-    Running(u32),
-    Homed,
-    Failed,
-}
+// Where homing stands, as one number: idle, homed, failed, or RUNNING and the running leg's place in its method's row.
+pub const IDLE: u32 = 0;
+
+pub const HOMED: u32 = 1;
+
+pub const FAILED: u32 = 2;
+
+pub const RUNNING: u32 = 3;
 
 // At a place, or homed where the route has no leg there.
-fn enter(method: u32, place: u32) -> Phase
-    ensures { λ r. ⌜ r ≡ entered method place ⌝ }
+fn enter(method: u32, place: u32) -> u32
+    ensures { λ r. ⌜ phaseOf r ≡ entered method place ⌝ }
 {
     let found = legs::leg_at(method, place);
     match found {
-        Found::Leg(_) => Phase::Running(place),
-        Found::Nothing => Phase::Homed,
+        Found::Leg(_) => RUNNING + place,
+        Found::Nothing => HOMED,
     }
 }
 
 // A limit turns route a's first leg to route b's second; any other leg fails.
-fn at_limit(method: u32, place: u32) -> Phase
-    ensures { λ r. ⌜ r ≡ limitAt method place ⌝ }
+fn at_limit(method: u32, place: u32) -> u32
+    ensures { λ r. ⌜ phaseOf r ≡ limitAt method place ⌝ }
 {
     match method {
         23..=30 => {
             if place == 0 {
                 enter(method, legs::TURN)
             } else {
-                Phase::Failed
+                FAILED
             }
         }
-        _ => Phase::Failed,
+        _ => FAILED,
     }
 }
 
 // One tick in a leg.
-fn run(method: u32, place: u32, view: View) -> Phase
-    ensures { λ r. ⌜ r ≡ runningOf method place view ⌝ }
+fn run(method: u32, place: u32, view: View) -> u32
+    ensures { λ r. ⌜ phaseOf r ≡ runningOf method place view ⌝ }
 {
     let found = legs::leg_at(method, place);
     match found {
-        Found::Nothing => Phase::Failed,
+        Found::Nothing => FAILED,
         Found::Leg(leg) => {
             if view.kept {
                 if events::event_counts(leg, view) {
@@ -55,18 +57,18 @@ fn run(method: u32, place: u32, view: View) -> Phase
                 if events::limit_counts(leg, view) {
                     at_limit(method, place)
                 } else {
-                    Phase::Running(place)
+                    RUNNING + place
                 }
             } else {
-                Phase::Idle
+                IDLE
             }
         }
     }
 }
 
 // Homing after its start tick; home is HOM in that tick. A number that is no method makes homing idle.
-pub fn start(method: u32, home: bool) -> Phase
-    ensures { λ r. ⌜ r ≡ startOf method home ⌝ }
+pub fn start(method: u32, home: bool) -> u32
+    ensures { λ r. ⌜ phaseOf r ≡ startOf method home ⌝ }
 {
     match method {
         23..=30 | 33..=35 => {
@@ -76,18 +78,49 @@ pub fn start(method: u32, home: bool) -> Phase
                 enter(method, 0)
             }
         }
-        _ => Phase::Idle,
+        _ => IDLE,
     }
 }
 
 // Homing after a later tick.
-pub fn step(phase: Phase, method: u32, view: View) -> Phase
-    ensures { λ r. ⌜ r ≡ stepOf phase method view ⌝ }
+pub fn step(phase: u32, method: u32, view: View) -> u32
+    ensures { λ r. ⌜ phaseOf r ≡ stepOf (phaseOf phase) method view ⌝ }
 {
-    match phase {
-        Phase::Idle => Phase::Idle,
-        Phase::Running(place) => run(method, place, view),
-        Phase::Homed => Phase::Homed,
-        Phase::Failed => Phase::Failed,
+    if phase < RUNNING {
+        phase
+    } else {
+        run(method, phase - RUNNING, view)
     }
+}
+
+// Homing after a later tick that does not keep it.
+pub fn stop(phase: u32, method: u32) -> u32
+    ensures { λ r. ⌜ phaseOf r ≡ stoppedOf (phaseOf phase) method ⌝ }
+{
+    if phase < RUNNING {
+        return phase;
+    }
+    let found = legs::leg_at(method, phase - RUNNING);
+    match found {
+        Found::Leg(_) => IDLE,
+        Found::Nothing => FAILED,
+    }
+}
+
+pub fn is_homed(phase: u32) -> bool
+    ensures { λ r. ⌜ r ≡ homedIn (phaseOf phase) ⌝ }
+{
+    phase == HOMED
+}
+
+pub fn is_running(phase: u32) -> bool
+    ensures { λ r. ⌜ r ≡ runningIn (phaseOf phase) ⌝ }
+{
+    phase >= RUNNING
+}
+
+pub fn has_failed(phase: u32) -> bool
+    ensures { λ r. ⌜ r ≡ failedIn (phaseOf phase) ⌝ }
+{
+    phase == FAILED
 }

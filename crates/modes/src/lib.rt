@@ -25,7 +25,8 @@ pub fn number(mode: Mode) -> i32
     }
 }
 
-fn place(mode: Mode) -> u32
+// The mode's place in the list above.
+pub fn place(mode: Mode) -> u32
     ensures { λ r. ⌜ r ≡ modePlace mode ⌝ }
 {
     match mode {

@@ -16,8 +16,7 @@ use Rattle.checks.specs.Check.{limitsVerdict}
 use Rattle.words.specs.Word.{kindOf, dataOf, wordOf}
 use Rattle.words.specs.Encode.{checksumOf}
 use Rattle.words.specs.Decode.{settingsOf}
-use Rattle.reader.specs.declared.Pending.{Pending}
-use Rattle.reader.specs.declared.Reading.{Reading}
+use Rattle.reader.specs.Pending.{Pending, Reading}
 use Rattle.kinds.specs.Fields.{fieldOk}
 use Rattle.reader.specs.Read.{dueKind, refused, stored, complete, started, kept, startOf, fieldOf, judged, endOf, readOf, outcomeNumber}
 use Rattle.reader.proofs.Steps.{read-start, read-out, read-end, read-field, due-below}

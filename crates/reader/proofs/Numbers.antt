@@ -17,7 +17,7 @@ use Rattle.checks.proofs.Numbers.{limits-number}
 use Rattle.words.specs.Word.{kindOf, dataOf}
 use Rattle.words.specs.Encode.{checksumOf}
 use Rattle.words.specs.Decode.{settingsOf}
-use Rattle.reader.specs.declared.Pending.{Pending}
+use Rattle.reader.specs.Pending.{Pending}
 use Rattle.kinds.specs.Fields.{fieldOk}
 use Rattle.reader.specs.Read.{refused, stored, started, kept, outOfSequence, startOf, fieldOf, judged, endOf, readOf, outcomeNumber}
 use Rattle.reader.specs.Cases.{isStart, isEnd, testsOf, Numbers}

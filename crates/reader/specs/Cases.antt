@@ -10,7 +10,7 @@ use Rattle.checks.specs.Cases as checks
 use Rattle.words.specs.Word.{kindOf, dataOf}
 use Rattle.words.specs.Encode.{checksumOf}
 use Rattle.words.specs.Decode.{settingsOf}
-use Rattle.reader.specs.declared.Pending.{Pending}
+use Rattle.reader.specs.Pending.{Pending}
 use Rattle.kinds.specs.Fields.{fieldOk}
 use Rattle.reader.specs.Read.{outOfSequence, readOf, outcomeNumber}
 

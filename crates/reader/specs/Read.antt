@@ -2,7 +2,7 @@
 -- Assumes nothing.
 use Prim.Native.Nat.{ℕ, _+_}
 use mathlib.Core.Bool.{Bool, cond, not, _&&_}
-use mathlib.Core.List.{_∷_}
+use mathlib.Core.List.{List, _∷_}
 use lib.Dec.{eqb, ltb}
 use lib.ListN.{set, replicate}
 use Rattle.settings.specs.declared.Settings.{Settings}
@@ -13,10 +13,7 @@ use Rattle.settings.specs.declared.Verdict.the-variants.{Accepted}
 use Rattle.settings.specs.declared.Verdict.the-variants as verdict
 use Rattle.settings.specs.Refusal.{numberOf}
 use Rattle.checks.specs.Check.{limitsVerdict}
-use Rattle.reader.specs.declared.Pending.{Pending}
-use Rattle.reader.specs.declared.Outcome.{Outcome}
-use Rattle.reader.specs.declared.Outcome.the-variants.{Refused, Stored, Complete}
-use Rattle.reader.specs.declared.Reading.{Reading}
+use Rattle.reader.specs.Pending.{Pending, Outcome, Refused, Stored, Complete, Reading}
 use Rattle.words.specs.Word.{kindOf, dataOf}
 use Rattle.kinds.specs.Fields.{fieldOk}
 use Rattle.words.specs.Decode.{settingsOf}
@@ -68,6 +65,9 @@ judged s Accepted = complete s
 judged s (verdict.Refused r) = refused r
 
 -- 4: "end word's data differs from the sum"; then 5 and 6
+unfoldable pub endVerdict : List ℕ → ℕ → Verdict
+endVerdict values x = cond (eqb x (checksumOf values)) (limitsVerdict (settingsOf values)) (verdict.Refused ChecksumMismatch)
+
 unfoldable pub endOf : Pending → ℕ → Reading
 endOf p x =
     cond (eqb x (checksumOf (p .values))) (judged (settingsOf (p .values)) (limitsVerdict (settingsOf (p .values)))) (refused ChecksumMismatch)

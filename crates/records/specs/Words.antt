@@ -1,12 +1,12 @@
--- Events, answers and settings as plain 32-bit words.
--- An event is seven: what it is (0 a settings word, 1 hybrid, 2 homing, 3 position, 4 torque, any other number rest); the settings word,
--- or the control word; actual position; inputs (bits 0 to 3: POT, NOT, HOM, Z; 4: standstill; 5: limit set 2); alarm word; torque request;
--- target. Hybrid's seven floats stand in a list of their own.
+-- The events of ticks, answers and settings as plain 32-bit words.
+-- An event is seven: its command (1 hybrid, 2 homing, 3 position, 4 torque, any other number rest); control word; actual position; inputs
+-- (bits 0 to 3: POT, NOT, HOM, Z; 4: standstill; 5: limit set 2); alarm word; torque request; target. Hybrid's seven floats stand in a list
+-- of their own.
 -- Assumes nothing.
 use Prim.Native.Nat.{ℕ, _%_, _^_}
 use mathlib.Core.Bool.{Bool, true, false, cond}
 use mathlib.Core.List.{List, [], _∷_}
-use lib.Dec.{eqb}
+use lib.Dec.{eqb, ltb}
 use lib.Ieee.{Float, binary32, ofBits}
 use lib.IntN.{ℤ, pos, negsuc}
 use lib.ListN.{getD}
@@ -19,14 +19,11 @@ use Rattle.commands.specs.declared.Command.{Command}
 use Rattle.commands.specs.declared.Command.the-variants as command
 use Rattle.torque.specs.declared.LimitSet.{LimitSet}
 use Rattle.torque.specs.declared.LimitSet.the-variants.{Set1, Set2}
-use Rattle.legs.specs.declared.events.Switches.{Switches}
+use Rattle.patterns.specs.Patterns.{wordAt, switchesIn}
 use Rattle.ticks.specs.declared.Tick.{Tick}
 use Rattle.answers.specs.declared.Answer.{Answer}
 
 -- past the last stand zeros
-abbrev pub wordAt : List ℕ → ℕ → ℕ
-wordAt e k = getD e k 0
-
 abbrev pub floatAt : List Float → ℕ → Float
 floatAt f k = getD f k (ofBits binary32 0)
 
@@ -34,16 +31,17 @@ floatAt f k = getD f k (ofBits binary32 0)
 abbrev pub signedAt : List ℕ → ℕ → ℤ
 signedAt e k = wrapped (pos (wordAt e k))
 
--- its low half
-abbrev pub halfAt : List ℕ → ℕ → ℕ
-halfAt e k = wordAt e k % 2 ^ 16
+-- a control word has 16 bits: a number that needs more is none, and is taken as 0, disable voltage
+abbrev pub controlIn : ℕ → ℕ
+controlIn w = cond (ltb w (2 ^ 16)) w 0
 
--- a torque request has 16 bits
+-- a torque request has 16 bits: one beyond them is the nearest, which no torque limit can tell from it
 abbrev pub requestAt : List ℕ → ℕ → ℤ
 requestAt e k = clamped (signedAt e k) (negsuc 32767) (pos 32767)
 
-abbrev pub switchesIn : ℕ → Switches
-switchesIn inputs = record { positive = bitOf inputs 0; negative = bitOf inputs 1; home = bitOf inputs 2; index = bitOf inputs 3 }
+-- what bits 0 to 5 of the inputs say; no other is looked at
+abbrev pub inputsAt : List ℕ → ℕ → ℕ
+inputsAt e k = wordAt e k % 2 ^ 16
 
 abbrev pub set2If : Bool → LimitSet
 set2If true = Set2
@@ -71,12 +69,12 @@ commandIn e f =
 unfoldable pub tickIn : List ℕ → List Float → Tick
 tickIn e f =
     record {
-      control = halfAt e 1;
+      control = controlIn (wordAt e 1);
       command = commandIn e f;
       position = signedAt e 2;
-      switches = switchesIn (halfAt e 3);
-      still = bitOf (halfAt e 3) 4;
-      set = set2If (bitOf (halfAt e 3) 5);
+      switches = switchesIn (inputsAt e 3);
+      still = bitOf (inputsAt e 3) 4;
+      set = set2If (bitOf (inputsAt e 3) 5);
       alarm = wordAt e 4;
     }
 

@@ -4,13 +4,12 @@
 use answers::Answer;
 use commands::Command;
 use hybrid::Hybrid;
-use legs::events::Switches;
 use settings::Settings;
 use ticks::Tick;
 use torque::LimitSet;
 ghost use mathlib.Core.Path.{_≡_};
-ghost use Rattle.counts.specs.Wrap.{modulo};
-ghost use Rattle.records.specs.Words.{wordAt, floatAt, signedAt, halfAt, requestAt, gainsIn, switchesIn, set2If, commandIn, tickIn, settingsIn, answerWords};
+ghost use Rattle.patterns.specs.Patterns.{wordAt};
+ghost use Rattle.records.specs.Words.{floatAt, signedAt, controlIn, requestAt, gainsIn, set2If, commandIn, tickIn, settingsIn, answerWords};
 
 // A word; 0 past the last.
 fn word(words: &[u32], at: usize) -> u32
@@ -30,14 +29,14 @@ fn float(floats: &[f32], at: usize) -> f32
 fn signed(words: &[u32], at: usize) -> i32
     ensures { λ r. ⌜ r ≡ signedAt (now (words .entry)) at ⌝ }
 {
-    counts::wrap(word(words, at) as i64)
+    patterns::signed(word(words, at))
 }
 
-// A word's low half.
-fn half(words: &[u32], at: usize) -> u16
-    ensures { λ r. ⌜ r ≡ halfAt (now (words .entry)) at ⌝ }
+// A control word; one that needs more than 16 bits is none, and is taken as 0: disable voltage.
+fn control_word(word: u32) -> u16
+    ensures { λ r. ⌜ r ≡ controlIn word ⌝ }
 {
-    (word(words, at) % 0x10000) as u16
+    if word < 0x10000 { word as u16 } else { 0 }
 }
 
 // A torque request, held within 16 bits.
@@ -45,24 +44,6 @@ fn request(words: &[u32], at: usize) -> i16
     ensures { λ r. ⌜ r ≡ requestAt (now (words .entry)) at ⌝ }
 {
     counts::clamp(signed(words, at), -0x8000, 0x7FFF) as i16
-}
-
-// A number's 32-bit pattern.
-fn pattern(number: i32) -> u32
-    ensures { λ r. ⌜ r ≡ modulo 32 number ⌝ }
-{
-    ((number as i64 + 0x100000000) as u64 % 0x100000000) as u32
-}
-
-fn switches(inputs: u16) -> Switches
-    ensures { λ r. ⌜ r ≡ switchesIn inputs ⌝ }
-{
-    Switches {
-        positive: counts::bit(inputs, 0),
-        negative: counts::bit(inputs, 1),
-        home: counts::bit(inputs, 2),
-        index: counts::bit(inputs, 3),
-    }
 }
 
 fn limit_set(second: bool) -> LimitSet
@@ -107,12 +88,12 @@ fn command(e: &[u32], f: &[f32]) -> Command
 pub fn tick(e: &[u32], f: &[f32]) -> Tick
     ensures { λ r. ⌜ r ≡ tickIn (now (e .entry)) (now (f .entry)) ⌝ }
 {
-    let inputs = half(e, 3);
+    let inputs = (word(e, 3) % 0x10000) as u16;
     let command = command(e, f);
-    let switches = switches(inputs);
+    let switches = patterns::switches(inputs);
     let set = limit_set(counts::bit(inputs, 5));
     Tick {
-        control: half(e, 1),
+        control: control_word(word(e, 1)),
         command,
         position: signed(e, 2),
         switches,
@@ -126,10 +107,10 @@ pub fn tick(e: &[u32], f: &[f32]) -> Tick
 pub fn answer_words(a: Answer) -> [u32; 7]
     ensures { λ r. ⌜ r ≡ answerWords a ⌝ }
 {
-    let torque = pattern(a.torque);
-    let speed = pattern(a.speed);
-    let position = pattern(a.position);
-    let mode = pattern(a.mode);
+    let torque = patterns::pattern(a.torque);
+    let speed = patterns::pattern(a.speed);
+    let position = patterns::pattern(a.position);
+    let mode = patterns::pattern(a.mode);
     [
         a.number,
         torque,

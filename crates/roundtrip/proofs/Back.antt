@@ -19,9 +19,7 @@ use Rattle.words.specs.Encode.{checksumOf, wordsFrom, wordsOf}
 use Rattle.words.specs.Decode.{settingsOf}
 use Rattle.words.proofs.Words.{length-words}
 use Rattle.words.proofs.Widths.{Below}
-use Rattle.reader.specs.declared.Pending.{Pending}
-use Rattle.reader.specs.declared.Reading.{Reading}
-use Rattle.reader.specs.declared.Outcome.the-variants.{Stored, Complete}
+use Rattle.reader.specs.Pending.{Pending, Reading, Stored, Complete}
 use Rattle.reader.specs.Read.{emptyPending, dueKind, started, kept, readOf, outcomeNumber}
 use Rattle.reader.proofs.Accepted.{AcceptedBy, begins, keeps, closes, accepted-by}
 use Rattle.roundtrip.specs.ReadInto.{ReadInto, last, more}

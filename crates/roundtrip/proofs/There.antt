@@ -15,8 +15,7 @@ use Rattle.words.specs.Word.{kindOf, dataOf, wordOf}
 use Rattle.words.specs.Encode.{valuesOf, checksumOf, wordsFrom, wordsOf}
 use Rattle.words.specs.Decode.{settingsOf}
 use Rattle.words.proofs.Widths.{Below, values-below}
-use Rattle.reader.specs.declared.Pending.{Pending}
-use Rattle.reader.specs.declared.Reading.{Reading}
+use Rattle.reader.specs.Pending.{Pending, Reading}
 use Rattle.kinds.specs.Fields.{fieldOk}
 use Rattle.reader.specs.Read.{dueKind, stored, complete, started, kept, startOf, fieldOf, endOf, readOf, outcomeNumber}
 use Rattle.reader.proofs.Steps.{read-start, read-end, read-field}

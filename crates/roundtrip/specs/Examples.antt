@@ -18,7 +18,7 @@ use Rattle.checks.specs.Check.{acceptable, limitsVerdict}
 use Rattle.words.specs.Word.{sameWords}
 use Rattle.words.specs.Encode.{valuesOf, total, checksumOf, wordsFrom, wordsOf}
 use Rattle.words.specs.Decode.{settingsOf}
-use Rattle.reader.specs.declared.Pending.{Pending}
+use Rattle.reader.specs.Pending.{Pending}
 use Rattle.kinds.specs.Fields.{fieldOk}
 use Rattle.reader.specs.Read.{emptyPending, startOf, fieldOf, endOf, readOf, outcomeNumber}
 

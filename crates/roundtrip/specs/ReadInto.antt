@@ -4,8 +4,7 @@ use Prim.Native.Nat.{ℕ}
 use mathlib.Core.Path.{_≡_}
 use mathlib.Core.List.{List, [], _∷_}
 use Rattle.settings.specs.declared.Settings.{Settings}
-use Rattle.reader.specs.declared.Pending.{Pending}
-use Rattle.reader.specs.declared.Outcome.the-variants.{Complete}
+use Rattle.reader.specs.Pending.{Pending, Complete}
 use Rattle.reader.specs.Read.{readOf, outcomeNumber}
 
 pub data ReadInto : Pending → List ℕ → Settings → Type 0 where

@@ -7,7 +7,7 @@ use mathlib.Core.List.{List, [], _∷_, _++_}
 use Rattle.settings.specs.declared.Settings.{Settings}
 use Rattle.checks.specs.Check.{acceptable}
 use Rattle.words.specs.Encode.{wordsOf}
-use Rattle.reader.specs.declared.Pending.{Pending}
+use Rattle.reader.specs.Pending.{Pending}
 use Rattle.reader.specs.Read.{emptyPending, readOf}
 
 -- the pending settings after some words, each read from what the one before left

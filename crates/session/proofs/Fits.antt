@@ -26,8 +26,8 @@ use Rattle.cursors.specs.declared.Expected.{Expected}
 use Rattle.cursors.specs.declared.Expected.the-variants.{Keyword, Digits, Whole, Float, Command, At, Switches, Standstill, Set, End}
 use Rattle.lent.specs.Lent.{lentOf, writtenText}
 use Rattle.lines.specs.declared.Line.the-variants.{Blank, Fresh, Word, Tick, Sheet, Unreadable}
-use Rattle.axis.specs.Word.{wordOf}
-use Rattle.axis.specs.Tick.{tickOf}
+use Rattle.rules.specs.Word.{wordOf}
+use Rattle.rules.specs.Tick.{tickOf}
 use Rattle.session.specs.Answering.{Fits, LongFits}
 
 record Short (n : ℕ) (xs : List ℕ) : Type 0 where

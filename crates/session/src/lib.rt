@@ -1,14 +1,15 @@
 // The axis that the lines speak to, and the answer to each line.
-use axis::Axis;
+use cells::Lent;
 use lines::Line;
 use ticks::Tick;
 ghost use mathlib.Core.Path.{_≡_};
 ghost use Rattle.lines.specs.Lines.{lineOf};
 ghost use Rattle.complaints.specs.Texts.{longText};
-ghost use Rattle.session.specs.Answering.{freshSession, counted, withAxis, nextOf, textOf, Answers};
+ghost use Rattle.session.specs.Answering.{meant, freshConversation, counted, nextOf, textOf, Answers};
 
 pub struct Session {
-    pub axis: Axis,
+    // The axis's words.
+    pub axis: Lent,
     // Lines so far.
     pub lines: u64,
 }
@@ -21,58 +22,44 @@ pub struct Answered {
 
 impl Session {
     pub fn fresh() -> Session
-        ensures { λ r. ⌜ r ≡ freshSession ⌝ }
+        ensures { λ r. ⌜ meant r ≡ freshConversation ⌝ }
     {
-        Session {
-            axis: Axis::fresh(),
-            lines: 0,
-        }
+        let mut axis: Lent = [0; 37];
+        axis::fresh(&mut axis);
+        Session { axis, lines: 0 }
     }
 
     fn count(mut self) -> Session
-        ensures { λ r. ⌜ r ≡ counted self ⌝ }
+        ensures { λ r. ⌜ meant r ≡ counted (meant self) ⌝ }
     {
         self.lines = std::num::wrapping_add_u64(self.lines, 1);
         self
     }
 
-    fn with(mut self, axis: Axis) -> Session
-        ensures { λ r. ⌜ r ≡ withAxis self axis ⌝ }
+    fn word(mut self, word: u32, out: &mut [u8]) -> Answered
+        ensures { λ r. ⌜ Answers (now (out .entry)) (now (out .exit)) r (nextOf (meant self) (Line.Word word)) (textOf (meant self) (Line.Word word)) ⌝ }
     {
-        self.axis = axis;
-        self
-    }
-
-    fn word(self, word: u32, out: &mut [u8]) -> Answered
-        ensures { λ r. ⌜ Answers (now (out .entry)) (now (out .exit)) r (nextOf self (Line.Word word)) (textOf self (Line.Word word)) ⌝ }
-    {
-        let axis = self.axis;
-        let worded = axis.word(word);
-        let verdict = worded.verdict;
-        let next = worded.axis;
+        let verdict = axis::word(&mut self.axis, word);
         let length = printer::word(out, settings::verdict_number(verdict));
         Answered {
-            session: self.with(next),
+            session: self,
             length,
         }
     }
 
-    fn tick(self, tick: Tick, out: &mut [u8]) -> Answered
-        ensures { λ r. ⌜ Answers (now (out .entry)) (now (out .exit)) r (nextOf self (Line.Tick tick)) (textOf self (Line.Tick tick)) ⌝ }
+    fn tick(mut self, tick: Tick, out: &mut [u8]) -> Answered
+        ensures { λ r. ⌜ Answers (now (out .entry)) (now (out .exit)) r (nextOf (meant self) (Line.Tick tick)) (textOf (meant self) (Line.Tick tick)) ⌝ }
     {
-        let axis = self.axis;
-        let ticked = axis.tick(tick);
-        let answer = ticked.answer;
-        let next = ticked.axis;
+        let answer = axis::tick(&mut self.axis, tick);
         let length = printer::tick(out, answer);
         Answered {
-            session: self.with(next),
+            session: self,
             length,
         }
     }
 
-    fn act(self, line: Line, out: &mut [u8]) -> Answered
-        ensures { λ r. ⌜ Answers (now (out .entry)) (now (out .exit)) r (nextOf self line) (textOf self line) ⌝ }
+    fn act(mut self, line: Line, out: &mut [u8]) -> Answered
+        ensures { λ r. ⌜ Answers (now (out .entry)) (now (out .exit)) r (nextOf (meant self) line) (textOf (meant self) line) ⌝ }
     {
         match line {
             Line::Blank => Answered {
@@ -80,9 +67,10 @@ impl Session {
                 length: 0,
             },
             Line::Fresh => {
+                axis::fresh(&mut self.axis);
                 let length = printer::fresh(out);
                 Answered {
-                    session: self.with(Axis::fresh()),
+                    session: self,
                     length,
                 }
             }
@@ -107,7 +95,7 @@ impl Session {
 
     // A line, without its end, and its answer.
     pub fn line(self, line: &[u8], out: &mut [u8]) -> Answered
-        ensures { λ r. ⌜ Answers (now (out .entry)) (now (out .exit)) r (nextOf (counted self) (lineOf (now (line .entry)))) (textOf (counted self) (lineOf (now (line .entry)))) ⌝ }
+        ensures { λ r. ⌜ Answers (now (out .entry)) (now (out .exit)) r (nextOf (counted (meant self)) (lineOf (now (line .entry)))) (textOf (counted (meant self)) (lineOf (now (line .entry)))) ⌝ }
     {
         let session = self.count();
         session.act(lines::read(line), out)
@@ -115,7 +103,7 @@ impl Session {
 
     // A line of more than 255 bytes.
     pub fn long_line(self, out: &mut [u8]) -> Answered
-        ensures { λ r. ⌜ Answers (now (out .entry)) (now (out .exit)) r (counted self) (longText (counted self .lines)) ⌝ }
+        ensures { λ r. ⌜ Answers (now (out .entry)) (now (out .exit)) r (counted (meant self)) (longText (counted (meant self) .lines)) ⌝ }
     {
         let session = self.count();
         let length = complaints::too_long(out, session.lines);

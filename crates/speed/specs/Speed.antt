@@ -4,8 +4,7 @@ use Prim.Native.Nat.{ℕ, _-_, _^_, min}
 use mathlib.Core.Bool.{Bool, cond}
 use lib.IntN.{ℤ, pos, negℤ}
 use Rattle.settings.specs.declared.Settings.{Settings}
-use Rattle.homing.specs.declared.Phase.{Phase}
-use Rattle.homing.specs.declared.Phase.the-variants.{Idle, Running, Homed, Failed}
+use Rattle.homing.specs.Phase.{Phase, Idle, Running, Homed, Failed}
 use Rattle.legs.specs.declared.Leg.{Leg}
 use Rattle.legs.specs.declared.Found.{Found}
 use Rattle.legs.specs.declared.Found.the-variants as found

@@ -1,11 +1,11 @@
 // The speed that a tick commands: that of the running homing leg.
-use homing::Phase;
 use legs::Found;
 use legs::Leg;
 use settings::Settings;
 ghost use mathlib.Core.Path.{_≡_};
 ghost use Prim.Native.Nat.{_-_, _^_, min};
 ghost use Rattle.legs.specs.Places.{legAt};
+ghost use Rattle.homing.specs.Phase.{phaseOf};
 ghost use Rattle.speed.specs.Speed.{signedOf, legSpeed, foundSpeed, speedOf};
 
 // A speed is at most 2^28 - 1.
@@ -44,16 +44,15 @@ fn running_speed(s: Settings, place: u32) -> i32
 }
 
 // The speed of a tick that leaves homing in this phase.
-pub fn speed(s: Settings, phase: Phase, halted: bool) -> i32
-    ensures { λ r. ⌜ r ≡ speedOf s phase halted ⌝ }
+pub fn speed(s: Settings, phase: u32, halted: bool) -> i32
+    ensures { λ r. ⌜ r ≡ speedOf s (phaseOf phase) halted ⌝ }
 {
     if halted {
         return 0;
     }
-    match phase {
-        Phase::Idle => 0,
-        Phase::Running(place) => running_speed(s, place),
-        Phase::Homed => 0,
-        Phase::Failed => 0,
+    if phase < homing::RUNNING {
+        0
+    } else {
+        running_speed(s, phase - homing::RUNNING)
     }
 }

@@ -52,7 +52,8 @@ pub fn in_state(state: State, other: State) -> bool
     state_number(state) == state_number(other)
 }
 
-fn state_number(state: State) -> u32
+// The state's place in the list above.
+pub fn state_number(state: State) -> u32
     ensures { λ r. ⌜ r ≡ stateNumber state ⌝ }
 {
     match state {

@@ -4,7 +4,7 @@ use Prim.Native.Nat.{ℕ, _+_, _^_}
 use mathlib.Core.Bool.{Bool, true, false, not, _&&_, _||_}
 use Rattle.states.specs.declared.State.{State}
 use Rattle.states.specs.Status.{statusOf}
-use Rattle.legs.specs.declared.events.View.{View}
+use Rattle.legs.specs.declared.events.Switches.{Switches}
 use Rattle.modes.specs.declared.Mode.{Mode}
 use Rattle.modes.specs.declared.Mode.the-variants.{Homing, Position}
 use Rattle.modes.specs.Modes.{isMode}
@@ -14,9 +14,9 @@ abbrev pub weightOf : Bool → ℕ → ℕ
 weightOf true weight = weight
 weightOf false weight = 0
 
--- bit 11 (CiA 402: internal limit active): "11 if POT or NOT is on, or the followed target was clamped", whatever the switches were before
-abbrev pub limitedOf : View → Bool → Bool
-limitedOf v clamped = v .now .positive || v .now .negative || clamped
+-- bit 11 (CiA 402: internal limit active): "11 if POT or NOT is on, or the followed target was clamped"
+abbrev pub limitedOf : Switches → Bool → Bool
+limitedOf now clamped = now .positive || now .negative || clamped
 
 -- bit 10 (CiA 402: target reached): "In mode 6: 10 unless homing runs"
 abbrev pub reachedOf : Mode → Flags → Bool

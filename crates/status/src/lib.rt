@@ -1,5 +1,5 @@
 // The statusword: the drive's bits, bit 8, and bits 10 to 13.
-use legs::events::View;
+use legs::events::Switches;
 use modes::Mode;
 use states::State;
 ghost use mathlib.Core.Path.{_≡_};
@@ -28,10 +28,9 @@ fn weight(flag: bool, weight: u16) -> u16
 }
 
 // Bit 11: a limit switch is on, or the followed target was clamped.
-pub fn limited(view: View, clamped: bool) -> bool
-    ensures { λ r. ⌜ r ≡ limitedOf view clamped ⌝ }
+pub fn limited(now: Switches, clamped: bool) -> bool
+    ensures { λ r. ⌜ r ≡ limitedOf now clamped ⌝ }
 {
-    let now = view.now;
     now.positive | now.negative | clamped
 }
 

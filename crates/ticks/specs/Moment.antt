@@ -7,17 +7,17 @@ use Rattle.settings.specs.declared.Settings.{Settings}
 use Rattle.states.specs.declared.State.{State}
 use Rattle.states.specs.Alarm.{latchedOf}
 use Rattle.modes.specs.declared.Mode.{Mode}
+use Rattle.commands.specs.declared.Demand.{Demand}
 use Rattle.commands.specs.declared.Command.{Command}
 use Rattle.commands.specs.declared.Command.the-variants.{Hybrid, Homing, Position, Torque, Rest}
 use Rattle.legs.specs.declared.events.View.{View}
-use Rattle.homing.specs.declared.Phase.{Phase}
-use Rattle.homing.specs.Places.{startOf, stepOf, homedIn}
+use Rattle.homing.specs.Phase.{Phase, homedIn}
+use Rattle.homing.specs.Places.{startOf, stepOf}
 use Rattle.position.specs.declared.Followed.{Followed}
 use Rattle.position.specs.declared.Followed.the-variants.{Nothing}
 use Rattle.position.specs.Position.{followedOf}
-use Rattle.motion.specs.declared.Motion.{Motion}
 use Rattle.ticks.specs.declared.Tick.{Tick}
-use Rattle.ticks.specs.declared.Moment.{Moment}
+use Rattle.ticks.specs.Motion.{Motion}
 use Rattle.ticks.specs.Rules.{modeAfter, matchedIn, demandIn, alarmIn, stateAfter, startsIn, viewOf}
 
 -- mode and drive state after a tick
@@ -71,13 +71,24 @@ motionAfter s a t =
       position = t .position;
     }
 
--- what a tick comes to
-abbrev pub momentOf : Settings → Motion → Tick → Moment
-momentOf s a t =
+-- what a tick comes to: what is kept for the next tick, and what its answer needs besides
+pub record Moment : Type 0 where
+  pub motion : Motion
+  pub matched : Bool
+  pub demand : Demand
+  pub view : View
+  pub followed : Followed
+
+-- a tick from a motion to another, with the torque that it demands
+abbrev pub momentAt : Motion → Tick → Motion → Demand → Moment
+momentAt before t after demand =
     record {
-      motion = motionAfter s a t;
-      matched = matchedIn t (newMode a t);
-      demand = demandIn s t;
-      view = newView s a t;
-      followed = targetOf (t .command) (matchedIn t (newMode a t)) (newState s a t) (homedIn (newPhase s a t));
+      motion = after;
+      matched = matchedIn t (after .mode);
+      demand = demand;
+      view = viewOf (before .switches) (before .position) t (after .mode) (after .state);
+      followed = targetOf (t .command) (matchedIn t (after .mode)) (after .state) (homedIn (after .phase));
     }
+
+abbrev pub momentOf : Settings → Motion → Tick → Moment
+momentOf s a t = momentAt a t (motionAfter s a t) (demandIn s t)

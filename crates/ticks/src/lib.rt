@@ -1,18 +1,14 @@
-// One tick of an axis: its inputs, and what they come to: mode, drive state, homing, followed target.
+// One tick of an axis: its inputs, and what goes by more than one of them.
 use commands::Command;
-use commands::Demand;
-use homing::Phase;
 use legs::events::Switches;
 use legs::events::View;
 use modes::Mode;
-use motion::Motion;
 use position::Followed;
-use settings::Settings;
 use states::State;
 use torque::LimitSet;
 ghost use mathlib.Core.Path.{_≡_};
 ghost use Rattle.ticks.specs.Rules.{homingOn, viewWith};
-ghost use Rattle.ticks.specs.Moment.{phaseAfter, homeAfter, targetOf, momentOf};
+ghost use Rattle.ticks.specs.Moment.{homeAfter, targetOf};
 
 // The inputs of one tick.
 pub struct Tick {
@@ -27,18 +23,8 @@ pub struct Tick {
     pub alarm: u32,
 }
 
-// What a tick comes to.
-pub struct Moment {
-    // What is kept for the next tick.
-    pub motion: Motion,
-    pub matched: bool,
-    pub demand: Demand,
-    pub view: View,
-    pub followed: Followed,
-}
-
 // Homing is wanted and matched, and the drive in Operation enabled.
-fn homing_on(wanted: Mode, mode: Mode, state: State) -> bool
+pub fn homing_on(wanted: Mode, mode: Mode, state: State) -> bool
     ensures { λ r. ⌜ r ≡ homingOn wanted mode state ⌝ }
 {
     modes::is_mode(wanted, Mode::Homing)
@@ -46,34 +32,22 @@ fn homing_on(wanted: Mode, mode: Mode, state: State) -> bool
         & states::in_state(state, State::OperationEnabled)
 }
 
-// What homing sees of the tick.
-fn view(was: Motion, t: Tick, on: bool) -> View
-    ensures { λ r. ⌜ r ≡ viewWith (was .switches) (was .position) t on ⌝ }
+// What homing sees of the tick, beside the switches and the position that are remembered.
+pub fn view(switches: Switches, position: i32, t: Tick, on: bool) -> View
+    ensures { λ r. ⌜ r ≡ viewWith switches position t on ⌝ }
 {
-    let before = was.switches;
     let now = t.switches;
     View {
         kept: counts::bit(t.control, 4) & on,
         halted: counts::bit(t.control, 8),
-        movement: counts::moved(t.position, was.position),
-        before: before,
+        movement: counts::moved(t.position, position),
+        before: switches,
         now: now,
     }
 }
 
-fn phase_after(phase: Phase, method: u32, starting: bool, v: View) -> Phase
-    ensures { λ r. ⌜ r ≡ phaseAfter phase method starting v ⌝ }
-{
-    let now = v.now;
-    if starting {
-        homing::start(method, now.home)
-    } else {
-        homing::step(phase, method, v)
-    }
-}
-
 // Home is the position of the tick in which the axis becomes homed.
-fn home_after(home: i32, starting: bool, before: bool, after: bool, position: i32) -> i32
+pub fn home_after(home: i32, starting: bool, before: bool, after: bool, position: i32) -> i32
     ensures { λ r. ⌜ r ≡ homeAfter home starting before after position ⌝ }
 {
     if after & (starting | !before) {
@@ -84,7 +58,7 @@ fn home_after(home: i32, starting: bool, before: bool, after: bool, position: i3
 }
 
 // The target of a position command.
-fn command_target(command: Command, matched: bool, state: State, homed: bool) -> Followed
+pub fn command_target(command: Command, matched: bool, state: State, homed: bool) -> Followed
     ensures { λ r. ⌜ r ≡ targetOf command matched state homed ⌝ }
 {
     match command {
@@ -93,50 +67,5 @@ fn command_target(command: Command, matched: bool, state: State, homed: bool) ->
         Command::Position(target, _) => position::follow(matched, state, homed, target),
         Command::Torque(_) => Followed::Nothing,
         Command::Rest => Followed::Nothing,
-    }
-}
-
-// What a tick comes to, in 01's order: mode, drive state, homing.
-pub fn moment_of(was: Motion, s: Settings, t: Tick) -> Moment
-    ensures { λ r. ⌜ r ≡ momentOf s was t ⌝ }
-{
-    let command = t.command;
-    let before = was.state;
-    let shown = was.mode;
-    let running = was.phase;
-    let switches = t.switches;
-    let wanted = commands::mode(command);
-    let mode = modes::shown(wanted, shown, before, t.still);
-    let matched = modes::is_matched(wanted, mode);
-    let demand = commands::torque_demand(command, s.rated);
-    let alarm = commands::alarms(demand, t.alarm);
-    let state = drive::next(before, t.control, was.control, t.still, s.option, alarm);
-    let on = homing_on(wanted, mode, state);
-    let starting = control::rising(was.control, t.control, 4) & on;
-    let view = view(was, t, on);
-    let phase = phase_after(running, s.method, starting, view);
-    let is_homed = motion::homed(phase);
-    let motion = Motion {
-        state: state,
-        mode: mode,
-        alarm: states::latched(was.alarm, before, state, alarm),
-        phase: phase,
-        home: home_after(
-            was.home,
-            starting,
-            motion::homed(running),
-            is_homed,
-            t.position,
-        ),
-        control: t.control,
-        switches: switches,
-        position: t.position,
-    };
-    Moment {
-        motion: motion,
-        matched: matched,
-        demand: demand,
-        view: view,
-        followed: command_target(command, matched, state, is_homed),
     }
 }

@@ -1,10 +1,12 @@
 -- `homing::run` meets its contract: each path settles the definition's tests, in its order.
 -- Assumes nothing.
+use Prim.Native.Nat.{_<_}
 use mathlib.Core.Path.{_≡_, sym, _∙_}
 use native.Mathlib.Omega.{arith}
 use Rattle.legs.specs.declared.Found.the-variants as found
 use Rattle.legs.specs.Places.{legAt}
 use Rattle.legs.proofs.Table.{placed}
+use Rattle.homing.proofs.Phases.{running-at}
 use Rattle.homing.proofs.Arms.{run-end, run-idle, run-event, run-limit, run-stays}
 use borrow.Author.Needs.{needs}
 use Rattle.homing.proofs.run.Statement.{statement}
@@ -13,6 +15,9 @@ use Rattle.homing.proofs.run.Tie as tie
 -- the leg that was found stands at the place
 leg : (c : tie.After-found) → legAt (c .before .before .before .args .method) (c .before .before .before .args .place) ≡ found.Leg (c .found .given .0 .0)
 leg c = sym (c .before .before .leg-at .ensures) ∙ c .found .given .1
+
+room : (c : tie.After-found) → c .before .before .before .args .place < 12
+room c = let x = c .before .before .before .args in placed (x .method) (x .place) (c .found .given .0 .0) (leg c)
 
 leg-at-requires : tie.Need-leg-at-requires
 leg-at-requires c κs = search needs
@@ -27,11 +32,7 @@ event-counts-requires : tie.Need-event-counts-requires
 event-counts-requires c κs = search needs
 
 add-enter : tie.Need-add-enter
-add-enter c =
-    let f = c .before .before .before .before in
-    let x = f .before .before .before .args in
-    let h = placed (x .method) (x .place) (f .found .given .0 .0) (leg f) in
-    record { fits = omega arith }
+add-enter c = let h = room (c .before .before .before .before) in record { fits = omega arith }
 
 enter-requires : tie.Need-enter-requires
 enter-requires c κs = search needs
@@ -49,6 +50,9 @@ limit-counts-requires c κs = search needs
 
 at-limit-requires : tie.Need-at-limit-requires
 at-limit-requires c κs = search needs
+
+add-result : tie.Need-add-result
+add-result c = let h = room (c .before .before .before .before .before .before) in record { fits = omega arith }
 
 returns-2 : tie.Need-returns-2
 returns-2 c =
@@ -72,7 +76,8 @@ returns-4 c =
     let e = b .before .before in
     let f = e .before .before .before in
     let x = f .before .before .before .args in
-    sym (run-stays (x .method) (x .place) (x .view) _ (leg f) (e .before .if1 .taken)
+    running-at (x .place)
+    ∙ sym (run-stays (x .method) (x .place) (x .view) _ (leg f) (e .before .if1 .taken)
     (sym (e .event-counts .ensures) ∙ b .before .if2 .left) (sym (b .limit-counts .ensures) ∙ c .if3 .left))
 
 returns-5 : tie.Need-returns-5
@@ -94,6 +99,7 @@ run-spec =
     returns
     limit-counts-requires
     at-limit-requires
+    add-result
     returns-2
     returns-3
     returns-4

@@ -6,7 +6,7 @@ use mathlib.Core.List.{[], _∷_}
 use Rattle.counts.specs.Wrap.{modulo}
 use Rattle.answers.specs.declared.Answer.{Answer}
 use Rattle.records.specs.Words.{answerWords}
-use Rattle.records.proofs.Numbers.{read32}
+use Rattle.patterns.proofs.Numbers.{read32}
 use borrow.Author.Needs.{needs}
 use Rattle.records.proofs.answer_words.Statement.{statement}
 use Rattle.records.proofs.answer_words.Tie as tie

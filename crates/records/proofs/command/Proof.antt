@@ -2,7 +2,8 @@
 -- Assumes nothing.
 use borrow.Author.Tests.{ne-eqb}
 use Rattle.records.specs.Words.{commandIn}
-use Rattle.records.proofs.Numbers.{read16, read32}
+use Rattle.patterns.proofs.Numbers.{read32}
+use Rattle.records.proofs.Numbers.{read16}
 use Rattle.records.proofs.command.Statement.{statement}
 use Rattle.records.proofs.command.Tie as tie
 

@@ -7,7 +7,8 @@ use mir.Syntax.{w16, w32}
 use mir.Val.{SFits, toZ, ofZ}
 use Rattle.counts.specs.Clamp.{clamped}
 use Rattle.records.specs.Words.{signedAt, requestAt}
-use Rattle.records.proofs.Numbers.{read32, held-fits}
+use Rattle.patterns.proofs.Numbers.{read32}
+use Rattle.records.proofs.Numbers.{held-fits}
 use Rattle.records.proofs.request.Statement.{statement}
 use Rattle.records.proofs.request.Tie as tie
 

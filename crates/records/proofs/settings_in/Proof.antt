@@ -5,8 +5,9 @@ use mathlib.Core.Path.{_≡_, _∙_}
 use mathlib.Core.List.{List}
 use lib.IntN.{ℤ}
 use Rattle.settings.specs.declared.Settings.{Settings}
-use Rattle.records.specs.Words.{wordAt, signedAt, settingsIn}
-use Rattle.records.proofs.Numbers.{read32}
+use Rattle.patterns.specs.Patterns.{wordAt}
+use Rattle.records.specs.Words.{signedAt, settingsIn}
+use Rattle.patterns.proofs.Numbers.{read32}
 use Rattle.records.proofs.settings_in.Statement.{statement}
 use Rattle.records.proofs.settings_in.Tie as tie
 

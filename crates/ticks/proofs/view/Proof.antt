@@ -1,4 +1,4 @@
--- `view` meets its contract.
+-- `ticks::view` meets its contract.
 -- Assumes nothing.
 use mir.Facts.{toZ-ofZ}
 use mir.Syntax.{w32}
@@ -18,11 +18,10 @@ moved-requires c κs = search needs
 
 returns : tie.Need-returns
 returns c =
-    let b2 = c .before .before .before in
-    let a = b2 .before .before .before .before .args in
-    let now : SFits w32 (a .t .position) = record { sfits = c .before .before .struct-told .given .1 .1 .0 .1 } in
-    let was : SFits w32 (a .was .position) = record { sfits = c .before .struct-told2 .given .1 .1 .1 .1 .1 .1 .1 .0 .1 } in
-    rw (c .moved .ensures, toZ-ofZ now, toZ-ofZ was, b2 .bit2 .ensures, b2 .before .bit .ensures)
+    let b = c .before .before in
+    let s = b .before .before .before in
+    let now : SFits w32 (s .args .t .position) = record { sfits = c .before .struct-told .given .1 .1 .0 .1 } in
+    rw (c .moved .ensures, toZ-ofZ now, toZ-ofZ (s .fits .position), b .bit2 .ensures, b .before .bit .ensures)
 
 pub view-spec : {M : Type 1} → statement M
 view-spec = tie.close (tie.spec bit-requires bit-requires-2 moved-requires returns)

@@ -1,8 +1,8 @@
 -- `session::Session::act` meets its contract: an arm a kind of line.
 -- Assumes nothing.
-use mathlib.Core.Path.{ap, _∙_}
+use mathlib.Core.Path.{ap}
 use Rattle.page.proofs.Printing.{printed-as, printed-nothing}
-use Rattle.session.specs.Answering.{withAxis}
+use Rattle.session.specs.Answering.{meant, withAxis}
 use borrow.Author.Needs.{needs}
 use Rattle.session.proofs.Session.act.Statement.{statement}
 use Rattle.session.proofs.Session.act.Tie as tie
@@ -18,9 +18,6 @@ fresh-requires c κs = search needs
 
 fresh-requires-2 : tie.Need-fresh-requires-2
 fresh-requires-2 c κs = search needs
-
-with-requires : tie.Need-with-requires
-with-requires c κs = search needs
 
 enum-known-line : tie.Need-enum-known-line
 enum-known-line c = search needs
@@ -55,7 +52,7 @@ same-length c = search needs
 returns-2 : tie.Need-returns-2
 returns-2 c =
     let e = c .before .before .before .before .before .before .enum-told2 .given .1 in
-    (rw e (c .with .ensures ∙ ap (withAxis (c .before .before .before .before .before .before .before .before .before .args .self)) (c .before .fresh2 .ensures)), printed-as (rw e) (c .before .before .before .before .fresh .ensures))
+    (rw e (ap (withAxis (meant (c .before .before .before .before .before .before .before .before .before .args .t1))) (c .before .before .before .before .fresh .ensures)), printed-as (rw e) (c .before .before .fresh2 .ensures))
 
 same-length-2 : tie.Need-same-length-2
 same-length-2 c = search needs
@@ -89,7 +86,6 @@ act-spec =
     enum-told-2
     fresh-requires
     fresh-requires-2
-    with-requires
     enum-known-line
     word-requires
     enum-known-line-2

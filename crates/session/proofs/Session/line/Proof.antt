@@ -2,7 +2,7 @@
 -- Assumes nothing.
 use mathlib.Core.Path.{ap, _∙_}
 use Rattle.page.proofs.Printing.{printed-as}
-use Rattle.session.specs.Answering.{counted, nextOf, textOf}
+use Rattle.session.specs.Answering.{meant, counted, nextOf, textOf}
 use borrow.Author.Needs.{needs}
 use Rattle.session.proofs.Session.line.Statement.{statement}
 use Rattle.session.proofs.Session.line.Tie as tie
@@ -25,8 +25,8 @@ returns c =
     let l = c .before .before .before .before .read .result in
     let e = c .before .before .before .before .before .count .ensures in
     let r = c .before .before .before .before .read .ensures in (
-      c .before .before .act .ensures .0 ∙ ap (λ t. nextOf t l) e ∙ ap (nextOf (counted s)) r,
-      printed-as (ap (λ t. textOf t l) e ∙ ap (textOf (counted s)) r) (c .before .before .act .ensures .1),
+      c .before .before .act .ensures .0 ∙ ap (λ t. nextOf t l) e ∙ ap (nextOf (counted (meant s))) r,
+      printed-as (ap (λ t. textOf t l) e ∙ ap (textOf (counted (meant s))) r) (c .before .before .act .ensures .1),
     )
 
 pub line-spec : {M : Type 1} → statement M

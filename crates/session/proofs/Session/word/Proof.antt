@@ -4,7 +4,7 @@ use mathlib.Core.Path.{ap, _∙_}
 use Rattle.page.proofs.Printing.{printed-as}
 use Rattle.printer.specs.Texts.{wordText}
 use Rattle.settings.specs.Refusal.{verdictNumber}
-use Rattle.session.specs.Answering.{withAxis}
+use Rattle.session.specs.Answering.{meant, withAxis}
 use borrow.Author.Needs.{needs}
 use Rattle.session.proofs.Session.word.Statement.{statement}
 use Rattle.session.proofs.Session.word.Tie as tie
@@ -18,20 +18,16 @@ verdict-number-requires c κs = search needs
 word-requires-2 : tie.Need-word-requires-2
 word-requires-2 c κs = search needs
 
-with-requires : tie.Need-with-requires
-with-requires c κs = search needs
-
 same-length : tie.Need-same-length
 same-length c = search needs
 
 returns : tie.Need-returns
 returns c =
-    let e = c .before .before .before .before .before .before .before .word .ensures in (
-      c .with .ensures ∙ ap (λ w. withAxis (c .before .before .before .before .before .before .before .before .before .before .args .self) (w .axis)) e,
-      printed-as (ap wordText (c .before .before .before .before .verdict-number .ensures ∙ ap (λ w. verdictNumber (w .verdict)) e)) (c .before .before .before .word2 .ensures),
+    let w = c .before .before .before .before .before .word .ensures in (
+      ap (withAxis (meant (c .before .before .before .before .before .before .before .before .args .t1))) (w .axis),
+      printed-as (ap wordText (c .before .before .before .verdict-number .ensures ∙ ap verdictNumber (w .verdict))) (c .before .before .word2 .ensures),
     )
 
 pub word-spec : {M : Type 1} → statement M
 word-spec =
-    tie.close
-    (tie.spec word-requires verdict-number-requires word-requires-2 with-requires same-length returns)
+    tie.close (tie.spec word-requires verdict-number-requires word-requires-2 same-length returns)

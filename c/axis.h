@@ -1,0 +1,131 @@
+/* One axis, and the writer of its settings, for C99 and C++11. Link with libexports.a (`rt staticlib exports`).
+ *
+ * An axis lives in AXIS_WORDS words that you lend to each call; nothing of it is kept elsewhere. Make it fresh once, feed it settings words,
+ * and tick it once a cycle; words and ticks may come in any order.
+ *
+ * - Every array is aligned to 4 bytes, as its type is, and no pointer is null. The arrays lent to one call do not overlap.
+ * - No call keeps a pointer, allocates, blocks or has a state of its own. One axis is used by one caller at a time; two axes may be used at once.
+ * - Every value of every number is answered, and every content of the axis's words is some axis: zeros are a fresh one too. Rely on axis_fresh
+ *   all the same: what the words mean is the library's own affair.
+ *
+ * Units. Positions: counts of the encoder, modulo 2^32. Targets, home offset and software position limits: user units, a gear ratio away from
+ * counts. Speeds: counts in a unit of time that is yours; a homing speed is handed out as it was set. Torques: thousandths of the rated torque,
+ * which itself is in millinewton metres. A number marked (signed) is two's complement: cast it from and to int32_t. */
+#ifndef AXIS_H
+#define AXIS_H
+
+#include <stdint.h>
+
+#ifdef __cplusplus
+extern "C" {
+#endif
+
+#define AXIS_WORDS  37 /* words of an axis */
+#define AXIS_EVENT   7 /* words of a tick's inputs */
+#define AXIS_FLOATS  7 /* floats of a tick's inputs */
+#define AXIS_ANSWER  7 /* words of a tick's answer */
+#define AXIS_FIELDS 15 /* fields of settings, one a word */
+#define AXIS_SHEET  15 /* words that carry settings to an axis */
+
+/* Makes the axis fresh, whatever the words held: no settings, drive state Not ready to switch on, homing idle. */
+void axis_fresh(uint32_t axis[AXIS_WORDS]);
+
+/* Takes one settings word. Returns AXIS_ACCEPTED, or the refusal (1 to 7); a refused word empties the unfinished settings, so that they begin
+ * again with their first word. The last word brings all fields into force together, and the axis is homed no more and homing idle; until then
+ * the settings in force stay. */
+uint32_t axis_word(uint32_t axis[AXIS_WORDS], uint32_t word);
+
+/* One tick: takes its inputs and writes every word of its answer. Returns the answer's first word: AXIS_ACCEPTED, or AXIS_NO_SETTINGS, where the
+ * other six are 0 and the axis stays as it was. The floats are looked at by a hybrid command alone, but seven are lent in each call. */
+uint32_t axis_tick(uint32_t axis[AXIS_WORDS], const uint32_t event[AXIS_EVENT], const float floats[AXIS_FLOATS], uint32_t answer[AXIS_ANSWER]);
+
+/* Writes settings as their AXIS_SHEET words to the front of a buffer of `length` words, and leaves the rest of it alone. Returns AXIS_ACCEPTED,
+ * or the refusal, tested in the order 9, 3, 5, 6, and then leaves all of it alone. The length has 64 bits on a 32-bit machine too. */
+uint32_t axis_write(const uint32_t fields[AXIS_FIELDS], uint32_t *buffer, uint64_t length);
+
+/* Why a word, a tick or a buffer is refused, each in its case and in no other. */
+enum {
+    AXIS_ACCEPTED = 0,
+    AXIS_OUT_OF_SEQUENCE = 1,   /* a word whose kind is neither the next one due nor 0 */
+    AXIS_UNKNOWN_LAYOUT = 2,    /* a start word whose data is not 1 */
+    AXIS_OUT_OF_RANGE = 3,      /* a word's data, or a field, outside its range */
+    AXIS_CHECKSUM_MISMATCH = 4, /* an end word whose data is not the sum */
+    AXIS_LIMITS_CROSSED = 5,    /* the lower software position limit is not below the upper */
+    AXIS_OUT_OF_REACH = 6,      /* a software position limit, geared, is beyond 2^30 counts either way */
+    AXIS_DRIVE_ACTIVE = 7,      /* an end word in Operation enabled or Quick stop active */
+    AXIS_NO_SETTINGS = 8,       /* a tick before any settings are in force */
+    AXIS_BUFFER_TOO_SHORT = 9   /* fewer than AXIS_SHEET words */
+};
+
+/* The words of an event. Seven zeros are rest with the voltage disabled, at position 0. */
+enum {
+    AXIS_EVENT_COMMAND = 0,  /* AXIS_COMMAND_... */
+    AXIS_EVENT_CONTROL = 1,  /* control word, 16 bits; a greater number is none: it is taken as 0000, disable voltage, and never enables */
+    AXIS_EVENT_POSITION = 2, /* actual position, counts (signed) */
+    AXIS_EVENT_INPUTS = 3,   /* AXIS_INPUT_..., summed; other bits are not looked at */
+    AXIS_EVENT_ALARM = 4,    /* alarm word: any bit is an alarm */
+    AXIS_EVENT_TORQUE = 5,   /* torque request of homing, position and torque (signed), 16 bits; one beyond is taken as the nearest of 16 bits,
+                                which no torque limit can tell from it */
+    AXIS_EVENT_TARGET = 6    /* target of position, user units (signed) */
+};
+
+/* The command of a tick; any other number is rest too. */
+enum { AXIS_COMMAND_REST = 0, AXIS_COMMAND_HYBRID = 1, AXIS_COMMAND_HOMING = 2, AXIS_COMMAND_POSITION = 3, AXIS_COMMAND_TORQUE = 4 };
+
+enum {
+    AXIS_INPUT_POT = 1 << 0,        /* positive limit switch */
+    AXIS_INPUT_NOT = 1 << 1,        /* negative limit switch */
+    AXIS_INPUT_HOM = 1 << 2,        /* home switch */
+    AXIS_INPUT_Z = 1 << 3,          /* index pulse */
+    AXIS_INPUT_STANDSTILL = 1 << 4, /* the axis stands still */
+    AXIS_INPUT_LIMIT_SET_2 = 1 << 5 /* the torque limits are those of set 2, and not of set 1 */
+};
+
+/* The floats of a hybrid command: radians, radians a second, newton metres. It asks for the torque KP (pd - p) + KD (vd - v) + T, by single
+ * floats, each operation rounded once to nearest: the machine must not be set to round otherwise or to flush to zero. Where the torque, as
+ * thousandths of the rated one, is not finite, bit 31 of the alarm word counts as set. */
+enum {
+    AXIS_FLOAT_KP = 0, /* gain of position */
+    AXIS_FLOAT_KD = 1, /* gain of speed */
+    AXIS_FLOAT_PD = 2, /* target of position */
+    AXIS_FLOAT_VD = 3, /* target of speed */
+    AXIS_FLOAT_T = 4,  /* target of torque */
+    AXIS_FLOAT_P = 5,  /* actual position */
+    AXIS_FLOAT_V = 6   /* actual speed */
+};
+
+/* The words of an answer. */
+enum {
+    AXIS_ANSWER_NUMBER = 0,     /* AXIS_ACCEPTED or AXIS_NO_SETTINGS */
+    AXIS_ANSWER_TORQUE = 1,     /* commanded torque, thousandths of the rated torque (signed) */
+    AXIS_ANSWER_SPEED = 2,      /* commanded speed (signed) */
+    AXIS_ANSWER_POSITION = 3,   /* commanded position, counts (signed) */
+    AXIS_ANSWER_STATUSWORD = 4, /* statusword, 16 bits; bit 8: homed */
+    AXIS_ANSWER_MODE = 5,       /* modes of operation display (signed): -1 hybrid, 6 homing, 8 position, 10 torque, 0 none yet */
+    AXIS_ANSWER_ALARM = 6       /* alarm number: place of the lowest alarm bit, from 1, as Fault reaction was entered; 0 none */
+};
+
+/* The fields of settings, by CiA 402's names. */
+enum {
+    AXIS_FIELD_HOMING_METHOD = 0,           /* 23 to 30, 33, 34 or 35 */
+    AXIS_FIELD_HOMING_SPEED_FAST = 1,       /* 1 to 2^28 - 1: searching for a switch */
+    AXIS_FIELD_HOMING_SPEED_SLOW = 2,       /* 1 to 2^28 - 1: at its edge, or searching for the index pulse */
+    AXIS_FIELD_HOME_OFFSET = 3,             /* user units (signed), -2^27 to 2^27 - 1 */
+    AXIS_FIELD_GEAR_RATIO_NUMERATOR = 4,    /* 1 to 2^20: counts */
+    AXIS_FIELD_GEAR_RATIO_DENOMINATOR = 5,  /* 1 to 2^20: for so many user units */
+    AXIS_FIELD_POSITION_LIMIT_LOWER = 6,    /* software position limits, user units (signed), -2^27 to 2^27 - 1 */
+    AXIS_FIELD_POSITION_LIMIT_UPPER = 7,
+    AXIS_FIELD_MAXIMUM_TORQUE = 8,          /* torques: 0 to 3000 thousandths of the rated torque */
+    AXIS_FIELD_POSITIVE_TORQUE_LIMIT_1 = 9, /* torque limits of sets 1 and 2, as magnitudes */
+    AXIS_FIELD_NEGATIVE_TORQUE_LIMIT_1 = 10,
+    AXIS_FIELD_POSITIVE_TORQUE_LIMIT_2 = 11,
+    AXIS_FIELD_NEGATIVE_TORQUE_LIMIT_2 = 12,
+    AXIS_FIELD_QUICK_STOP_OPTION_CODE = 13, /* 2 or 6 */
+    AXIS_FIELD_RATED_TORQUE = 14            /* 1 to 2^24 millinewton metres */
+};
+
+#ifdef __cplusplus
+}
+#endif
+
+#endif

@@ -1,0 +1,112 @@
+-- A settings word, branch by branch: what is written, and the verdict, are those of the rule.
+-- Assumes nothing.
+use Prim.Native.Nat.{ℕ, zero, suc, _+_, _<_, _≤_}
+use mathlib.Core.Path.{_≡_, refl, sym, ap, ap₂, _∙_}
+use mathlib.Core.Bool.{Bool, true, false, cond}
+use mathlib.Core.List.{List, _∷_}
+use native.Mathlib.Omega.{arith}
+use borrow.Author.Tests.{lt-ltb, ltb-true, ltb-false}
+use lib.Dec.{ltb}
+use lib.ListN.{take, drop}
+use lib.Seq.{drop-drop}
+use Rattle.settings.specs.declared.Refusal.{Refusal}
+use Rattle.settings.specs.declared.Refusal.the-variants.{DriveActive}
+use Rattle.settings.specs.declared.Verdict.{Verdict}
+use Rattle.settings.specs.declared.Verdict.the-variants.{Accepted, Refused}
+use Rattle.states.specs.States.{liveOf}
+use Rattle.words.specs.Decode.{settingsOf}
+use Rattle.reader.specs.Pending.{Pending, Reading, Complete}
+use Rattle.reader.specs.Read.{emptyPending, dueKind, kept, refused, stored, complete, judged, endVerdict, endOf, readOf}
+use Rattle.reader.specs.Cases.{isEnd}
+use Rattle.reader.proofs.Steps.{end-judged}
+use Rattle.rules.specs.Axis.{Axis, Worded}
+use Rattle.rules.specs.Word.{taken, wordOf}
+use Rattle.patterns.specs.Patterns.{wordAt}
+use Rattle.cells.specs.Lists.{cellsFrom, valuesFrom}
+use Rattle.cells.specs.Cells.{valueIn, pendingIn, motionIn, axisIn, MotionKept}
+use Rattle.cells.specs.Writes.{Pends, more, InputsKept, Activated}
+use Rattle.axis.specs.Calls.{Takes, WordCall, readIn, completedIn}
+
+-- where all of motion is kept, so are its inputs
+pub inputs-kept : (l m : List ℕ) → MotionKept l m → InputsKept l m
+inputs-kept l m e =
+    record {
+      before = ap (take 3) e;
+      after = sym (drop-drop 4 29 m) ∙ ap (drop 4) e ∙ drop-drop 4 29 l;
+    }
+
+-- a value that is due is one more
+pub more-due : (p : Pending) (k x : ℕ) → k < 14 → k ≡ p .count → more p x ≡ kept p k x
+more-due p k x b e = rw (e, lt-ltb (p .count) 14 (omega (arith, e, b)))
+
+-- other pending settings alone: the word's data is kept, or it is refused
+pub kept-word : (l m : List ℕ) (ends : Bool) (p : Pending) → Pends l p m → Takes l ends (readIn l (stored p)) m Accepted
+kept-word l m ends p c = record { axis = c .axis; verdict = refl; inputs = inputs-kept l m (c .motion); kept = λ n. (c .settings, c .motion) }
+
+pub refused-word : (l m : List ℕ) (ends : Bool) (r : Refusal) → Pends l emptyPending m → Takes l ends (readIn l (refused r)) m (Refused r)
+refused-word l m ends r c = record { axis = c .axis; verdict = refl; inputs = inputs-kept l m (c .motion); kept = λ n. (c .settings, c .motion) }
+
+-- an end word that completes settings: refused while the drive is live, else they come into force
+pub live-end : (l values : List ℕ) → liveOf (motionIn l .state) ≡ true → Takes l true (completedIn l values) l (Refused DriveActive)
+unfolding axisIn
+live-end l values e = record { axis = rw e; verdict = rw e; inputs = record { before = refl; after = refl }; kept = λ n. (refl, refl) }
+
+pub activating-end : (l values m : List ℕ) → liveOf (motionIn l .state) ≡ false → Activated l values m → Takes l true (completedIn l values) m Accepted
+unfolding axisIn
+activating-end l values m e c = record { axis = rw e (c .axis); verdict = rw e; inputs = c .motion; kept = λ n. absurd (n refl refl) }
+
+-- once all have come, the values are the words themselves
+values-come : (l : List ℕ) (k n : ℕ) → k + n ≤ pendingIn l .count → valuesFrom k n (valueIn l) ≡ cellsFrom (15 + k) n l
+values-come l k zero h = refl
+values-come l k (suc n) h =
+    let here : valueIn l k ≡ wordAt l (15 + k) = rw (lt-ltb k (pendingIn l .count) (omega arith)) in
+    let later : valuesFrom (suc k) n (valueIn l) ≡ cellsFrom (suc (15 + k)) n l =
+    values-come l (suc k) n (omega arith) ∙ ap (λ (i : ℕ). cellsFrom i n l) (omega arith) in
+    ap₂ (λ (x : ℕ) (t : List ℕ). x ∷ t) here later
+
+ended : (l values : List ℕ) (sum : ℕ) → 14 ≤ pendingIn l .count → values ≡ cellsFrom 15 14 l
+    → endOf (pendingIn l) sum ≡ judged (settingsOf values) (endVerdict values sum)
+ended l values sum h e = end-judged (pendingIn l) sum ∙ rw (values-come l 0 14 h, e)
+
+pub refused-end : (l values m : List ℕ) (sum : ℕ) (r : Refusal) → 14 ≤ pendingIn l .count → values ≡ cellsFrom 15 14 l
+    → endVerdict values sum ≡ Refused r → Pends l emptyPending m → Takes l true (readIn l (endOf (pendingIn l) sum)) m (Refused r)
+refused-end l values m sum r h e v c =
+    let g : endOf (pendingIn l) sum ≡ refused r = ended l values sum h e ∙ ap (judged (settingsOf values)) v in
+    rw g (refused-word l m true r c)
+
+-- the words are emptied first, then the settings come into force or not
+pub complete-end : (l values m n : List ℕ) (sum : ℕ) (v : Verdict) → 14 ≤ pendingIn l .count → values ≡ cellsFrom 15 14 l
+    → endVerdict values sum ≡ Accepted → Pends l emptyPending m → Takes m true (completedIn m values) n v
+    → Takes l true (readIn l (endOf (pendingIn l) sum)) n v
+complete-end l values m n sum v h e a c d =
+    let g : endOf (pendingIn l) sum ≡ complete (settingsOf values) = ended l values sum h e ∙ ap (judged (settingsOf values)) a in
+    let x : completedIn m values ≡ readIn l (complete (settingsOf values)) = ap (λ (b : Axis). taken b (Complete (settingsOf values))) (c .axis) in
+    let i = inputs-kept l m (c .motion) in
+    rw g
+    (record {
+      axis = d .axis ∙ ap (λ (y : Worded). y .axis) x;
+      verdict = d .verdict ∙ ap (λ (y : Worded). y .verdict) x;
+      inputs = record { before = d .inputs .before ∙ i .before; after = d .inputs .after ∙ i .after };
+      kept = λ q. (d .kept q .0 ∙ c .settings, d .kept q .1 ∙ c .motion);
+    })
+
+-- the whole word is what its branch is
+pub word-call : (l m : List ℕ) (w : ℕ) (v : Verdict) (g : Reading) (ends : Bool) → readOf (pendingIn l) w ≡ g → isEnd w ≡ ends
+    → Takes l ends (readIn l g) m v → WordCall l w m v
+unfolding wordOf axisIn
+word-call l m w v g ends e f c = rw (e, f) c
+
+-- the end word is due when all have come, another word when so many have come
+pub all-come : (n : ℕ) → 15 ≡ dueKind n → 14 ≤ n
+all-come n e = go (ltb n 14) refl e
+  where
+    go : (t : Bool) → ltb n 14 ≡ t → 15 ≡ cond t n 15 → 14 ≤ n
+    go true q e = absurd (omega (arith, ltb-true n 14 q))
+    go false q e = ltb-false n 14 q
+
+pub due-is : (k n : ℕ) → k ≡ dueKind n → (k ≡ 15 → ⊥) → k ≡ n
+due-is k n e z = go (ltb n 14) e
+  where
+    go : (t : Bool) → k ≡ cond t n 15 → k ≡ n
+    go true e = e
+    go false e = absurd (z e)

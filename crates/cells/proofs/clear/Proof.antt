@@ -1,0 +1,11 @@
+-- `cells::clear` meets its contract.
+-- Assumes nothing.
+use Rattle.cells.proofs.Laws.{cleared}
+use Rattle.cells.proofs.clear.Statement.{statement}
+use Rattle.cells.proofs.clear.Tie as tie
+
+returns : tie.Need-returns
+returns c = cleared
+
+pub clear-spec : {M : Type 1} → statement M
+clear-spec = tie.close (tie.spec returns)

@@ -1,0 +1,62 @@
+-- What the lent words mean. Every content of them means some axis.
+--   0 to 13   the settings in force, as the data of their settings words; word 0 is 0 where none are in force
+--   14        how many settings words are pending
+--   15 to 28  their data; a word at or beyond that count is of no meaning
+--   29 to 36  motion: state, mode, alarm number, homing phase, home, control word, switches, position
+-- Assumes nothing.
+use Prim.Native.Nat.{ℕ, _+_, _%_, _^_}
+use mathlib.Core.Path.{_≡_}
+use mathlib.Core.Bool.{cond}
+use mathlib.Core.List.{List}
+use lib.Dec.{eqb, ltb}
+use lib.IntN.{pos}
+use lib.ListN.{take, drop}
+use Rattle.counts.specs.Wrap.{wrapped}
+use Rattle.settings.specs.declared.Settings.{Settings}
+use Rattle.words.specs.Decode.{settingsOf}
+use Rattle.reader.specs.Pending.{Pending}
+use Rattle.homing.specs.Phase.{phaseOf}
+use Rattle.ticks.specs.Motion.{Motion}
+use Rattle.rules.specs.Axis.{Active, Nothing, Set, Axis}
+use Rattle.patterns.specs.Patterns.{wordAt, switchesIn, stateOf, modeOf}
+use Rattle.cells.specs.Lists.{cellsFrom, valuesFrom}
+
+-- the settings that words 0 to 13 carry
+abbrev pub settingsIn : List ℕ → Settings
+settingsIn l = settingsOf (cellsFrom 0 14 l)
+
+unfoldable pub activeIn : List ℕ → Active
+activeIn l = cond (eqb (wordAt l 0) 0) Nothing (Set (settingsIn l))
+
+-- a value that has come; 0 where none has
+abbrev pub valueIn : List ℕ → ℕ → ℕ
+valueIn l k = cond (ltb k (wordAt l 14)) (wordAt l (15 + k)) 0
+
+abbrev pub pendingIn : List ℕ → Pending
+pendingIn l = record { count = wordAt l 14; values = valuesFrom 0 14 (valueIn l) }
+
+abbrev pub motionIn : List ℕ → Motion
+motionIn l =
+    record {
+      state = stateOf (wordAt l 29);
+      mode = modeOf (wordAt l 30);
+      alarm = wordAt l 31;
+      phase = phaseOf (wordAt l 32);
+      home = wrapped (pos (wordAt l 33));
+      control = wordAt l 34 % 2 ^ 16;
+      switches = switchesIn (wordAt l 35 % 2 ^ 16);
+      position = wrapped (pos (wordAt l 36));
+    }
+
+unfoldable pub axisIn : List ℕ → Axis
+axisIn l = record { active = activeIn l; pending = pendingIn l; motion = motionIn l }
+
+-- the words of the settings in force, of what is pending, and of motion are as before
+abbrev pub SettingsKept : List ℕ → List ℕ → Type 0
+SettingsKept l m = take 14 m ≡ take 14 l
+
+abbrev pub PendingKept : List ℕ → List ℕ → Type 0
+PendingKept l m = take 15 (drop 14 m) ≡ take 15 (drop 14 l)
+
+abbrev pub MotionKept : List ℕ → List ℕ → Type 0
+MotionKept l m = drop 29 m ≡ drop 29 l

@@ -1,0 +1,84 @@
+-- What each write leaves: l are the words before it, m those after it. The words that are not its to write are kept as they are.
+-- Assumes nothing.
+use Prim.Native.Nat.{ℕ}
+use mathlib.Core.Path.{_≡_}
+use mathlib.Core.Bool.{cond}
+use mathlib.Core.List.{List, [], _∷_}
+use lib.Dec.{ltb}
+use lib.ListN.{take, drop}
+use Rattle.counts.specs.Wrap.{modulo}
+use Rattle.states.specs.States.{stateNumber}
+use Rattle.modes.specs.Modes.{modePlace}
+use Rattle.words.specs.Decode.{settingsOf}
+use Rattle.reader.specs.Pending.{Pending}
+use Rattle.reader.specs.Read.{emptyPending, started, kept}
+use Rattle.homing.specs.Phase.{phaseOf}
+use Rattle.ticks.specs.Motion.{Motion, idled}
+use Rattle.rules.specs.Axis.{Set, freshAxis}
+use Rattle.rules.specs.Word.{withPending}
+use Rattle.patterns.specs.Patterns.{switchBits}
+use Rattle.cells.specs.Cells.{pendingIn, motionIn, axisIn, SettingsKept, PendingKept, MotionKept}
+use Rattle.cells.specs.declared.Motion as stored
+
+abbrev pub Cleared : List ℕ → Type 0
+Cleared m = axisIn m ≡ freshAxis
+
+-- other pending settings, and nothing else
+pub record Pends (l : List ℕ) (p : Pending) (m : List ℕ) : Type 0 where
+  pub axis : axisIn m ≡ withPending (axisIn l) p
+  pub settings : SettingsKept l m
+  pub motion : MotionKept l m
+
+abbrev pub Emptied : List ℕ → List ℕ → Type 0
+Emptied l m = Pends l emptyPending m
+
+abbrev pub Begun : List ℕ → List ℕ → Type 0
+Begun l m = Pends l started m
+
+-- one value more, where there is room for it
+abbrev pub more : Pending → ℕ → Pending
+more p x = cond (ltb (p .count) 14) (kept p (p .count) x) p
+
+abbrev pub Kept : List ℕ → ℕ → List ℕ → Type 0
+Kept l x m = Pends l (more (pendingIn l) x) m
+
+-- all words of motion but the phase
+pub record InputsKept (l m : List ℕ) : Type 0 where
+  pub before : take 3 (drop 29 m) ≡ take 3 (drop 29 l)
+  pub after : drop 33 m ≡ drop 33 l
+
+pub record Activated (l values m : List ℕ) : Type 0 where
+  pub axis : axisIn m ≡ record { active = Set (settingsOf values); pending = pendingIn l; motion = idled (motionIn l) }
+  pub pending : PendingKept l m
+  pub motion : InputsKept l m
+
+-- what stored motion means, and its words
+abbrev pub motionOf : stored.Motion → Motion
+motionOf s =
+    record {
+      state = s .state;
+      mode = s .mode;
+      alarm = s .alarm;
+      phase = phaseOf (s .phase);
+      home = s .home;
+      control = s .control;
+      switches = s .switches;
+      position = s .position;
+    }
+
+unfoldable pub motionWords : stored.Motion → List ℕ
+motionWords s =
+    stateNumber (s .state)
+    ∷ modePlace (s .mode)
+    ∷ s .alarm
+    ∷ s .phase
+    ∷ modulo 32 (s .home)
+    ∷ s .control
+    ∷ switchBits (s .switches)
+    ∷ modulo 32 (s .position)
+    ∷ []
+
+-- motion is what a tick leaves; the settings in force and what is pending are kept
+pub record Moved (l : List ℕ) (s : stored.Motion) (m : List ℕ) : Type 0 where
+  pub axis : axisIn m ≡ record { active = axisIn l .active; pending = axisIn l .pending; motion = motionOf s }
+  pub kept : take 29 m ≡ take 29 l

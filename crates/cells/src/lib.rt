@@ -1,0 +1,308 @@
+// The axis in words that the caller lends: what each word is, and every read and write of them.
+use legs::events::Switches;
+use modes::Mode;
+use settings::Settings;
+use states::State;
+use words::decoder;
+ghost use mathlib.Core.Path.{_≡_};
+ghost use mathlib.Core.Bool.{not};
+ghost use mathlib.Core.List.{_∷_};
+ghost use lib.Dec.{eqb};
+ghost use lib.ListN.{length};
+ghost use lib.Seq.{sets};
+ghost use Rattle.homing.specs.Phase.{phaseOf};
+ghost use Rattle.patterns.specs.Patterns.{wordAt};
+ghost use Rattle.cells.specs.Lists.{cellsFrom, cells};
+ghost use Rattle.cells.specs.Cells.{settingsIn, pendingIn, motionIn};
+ghost use Rattle.cells.specs.Writes.{Cleared, Emptied, Begun, Kept, Activated, motionWords, Moved};
+
+// The lent words: the settings in force, what is pending, motion. Words 0 to 13 are the data of the settings words that came into force;
+// the first, the start word's, is 0 where none did.
+pub type Lent = [u32; 37];
+
+const METHOD: usize = 1;
+
+const OPTION: usize = 12;
+
+const RATED: usize = 13;
+
+// How many settings words are pending, and the first one's data.
+const COUNT: usize = 14;
+
+const VALUES: usize = 15;
+
+const STATE: usize = 29;
+
+const MODE: usize = 30;
+
+const ALARM: usize = 31;
+
+const PHASE: usize = 32;
+
+const HOME: usize = 33;
+
+const CONTROL: usize = 34;
+
+const SWITCHES: usize = 35;
+
+const POSITION: usize = 36;
+
+// What an axis keeps from tick to tick, with no gap between the fields: the drive's state, the mode that it shows, homing, and the inputs
+// of the tick before.
+pub struct Motion {
+    pub state: State,
+    // Modes of operation display (01: shown mode).
+    pub mode: Mode,
+    pub control: u16,
+    pub switches: Switches,
+    // Latched alarm number.
+    pub alarm: u32,
+    // Where homing stands (`homing::IDLE` and the others).
+    pub phase: u32,
+    // The count of home; of no meaning unless homed.
+    pub home: i32,
+    pub position: i32,
+}
+
+// By value an array tells its length; in a contract, a reference to it does not.
+fn lent(axis: Lent)
+    ensures { λ _. ⌜ length axis ≡ 37 ⌝ }
+{}
+
+// Whether settings are in force.
+pub fn is_active(axis: &Lent) -> bool
+    ensures { λ r. ⌜ r ≡ not (eqb (wordAt (now (axis .entry)) 0) 0) ⌝ }
+{
+    axis[0] != 0
+}
+
+fn active_values(axis: &Lent) -> [u32; 14]
+    ensures { λ r. ⌜ r ≡ cellsFrom 0 14 (now (axis .entry)) ⌝ }
+{
+    [
+        axis[0],
+        axis[1],
+        axis[2],
+        axis[3],
+        axis[4],
+        axis[5],
+        axis[6],
+        axis[7],
+        axis[8],
+        axis[9],
+        axis[10],
+        axis[11],
+        axis[12],
+        axis[13],
+    ]
+}
+
+// The settings in force; where none are, of no meaning.
+pub fn settings_in(axis: &Lent) -> Settings
+    ensures { λ r. ⌜ r ≡ settingsIn (now (axis .entry)) ⌝ }
+{
+    let values = active_values(axis);
+    decoder::decode(values)
+}
+
+pub fn method(axis: &Lent) -> u32
+    ensures { λ r. ⌜ r ≡ settingsIn (now (axis .entry)) .method ⌝ }
+{
+    axis[METHOD]
+}
+
+pub fn option(axis: &Lent) -> u32
+    ensures { λ r. ⌜ r ≡ settingsIn (now (axis .entry)) .option ⌝ }
+{
+    axis[OPTION]
+}
+
+pub fn rated(axis: &Lent) -> u32
+    ensures { λ r. ⌜ r ≡ settingsIn (now (axis .entry)) .rated ⌝ }
+{
+    axis[RATED]
+}
+
+// How many settings words are pending.
+pub fn count(axis: &Lent) -> u32
+    ensures { λ r. ⌜ r ≡ pendingIn (now (axis .entry)) .count ⌝ }
+{
+    axis[COUNT]
+}
+
+// The data of fourteen settings words, as far as they have come.
+pub fn values(axis: &Lent) -> [u32; 14]
+    ensures { λ r. ⌜ r ≡ cellsFrom 15 14 (now (axis .entry)) ⌝ }
+{
+    [
+        axis[VALUES],
+        axis[16],
+        axis[17],
+        axis[18],
+        axis[19],
+        axis[20],
+        axis[21],
+        axis[22],
+        axis[23],
+        axis[24],
+        axis[25],
+        axis[26],
+        axis[27],
+        axis[28],
+    ]
+}
+
+pub fn state(axis: &Lent) -> State
+    ensures { λ r. ⌜ r ≡ motionIn (now (axis .entry)) .state ⌝ }
+{
+    patterns::state_of(axis[STATE])
+}
+
+pub fn mode(axis: &Lent) -> Mode
+    ensures { λ r. ⌜ r ≡ motionIn (now (axis .entry)) .mode ⌝ }
+{
+    patterns::mode_of(axis[MODE])
+}
+
+pub fn alarm(axis: &Lent) -> u32
+    ensures { λ r. ⌜ r ≡ motionIn (now (axis .entry)) .alarm ⌝ }
+{
+    axis[ALARM]
+}
+
+pub fn phase(axis: &Lent) -> u32
+    ensures { λ r. ⌜ phaseOf r ≡ motionIn (now (axis .entry)) .phase ⌝ }
+{
+    axis[PHASE]
+}
+
+pub fn home(axis: &Lent) -> i32
+    ensures { λ r. ⌜ r ≡ motionIn (now (axis .entry)) .home ⌝ }
+{
+    patterns::signed(axis[HOME])
+}
+
+pub fn control(axis: &Lent) -> u16
+    ensures { λ r. ⌜ r ≡ motionIn (now (axis .entry)) .control ⌝ }
+{
+    (axis[CONTROL] % 0x10000) as u16
+}
+
+pub fn switches(axis: &Lent) -> Switches
+    ensures { λ r. ⌜ r ≡ motionIn (now (axis .entry)) .switches ⌝ }
+{
+    patterns::switches((axis[SWITCHES] % 0x10000) as u16)
+}
+
+pub fn position(axis: &Lent) -> i32
+    ensures { λ r. ⌜ r ≡ motionIn (now (axis .entry)) .position ⌝ }
+{
+    patterns::signed(axis[POSITION])
+}
+
+// A fresh axis: all words are 0.
+pub fn clear(axis: &mut Lent)
+    ensures { λ _. ⌜ Cleared (now (axis .exit)) ⌝ }
+{
+    *axis = [0; 37];
+}
+
+// Nothing is pending.
+pub fn empty(axis: &mut Lent)
+    ensures { λ _. ⌜ Emptied (now (axis .entry)) (now (axis .exit)) ⌝ }
+{
+    lent(*axis);
+    axis[COUNT] = 0;
+}
+
+// A start word is pending.
+pub fn begin(axis: &mut Lent)
+    ensures { λ _. ⌜ Begun (now (axis .entry)) (now (axis .exit)) ⌝ }
+{
+    lent(*axis);
+    axis[COUNT] = 1;
+    axis[VALUES] = 1;
+}
+
+// One word's data more is pending, unless all have come.
+pub fn keep(axis: &mut Lent, value: u32)
+    ensures { λ _. ⌜ Kept (now (axis .entry)) value (now (axis .exit)) ⌝ }
+{
+    lent(*axis);
+    let count = axis[COUNT];
+    if count < 14 {
+        let place = VALUES + count as usize;
+        axis[place] = value;
+        axis[COUNT] = count + 1;
+    }
+}
+
+fn put_values(axis: &mut Lent, v: [u32; 14])
+    ensures { λ _. ⌜ now (axis .exit) ≡ sets (now (axis .entry)) 0 (1 ∷ cellsFrom 1 13 v) ⌝ }
+{
+    axis[0] = 1;
+    axis[1] = v[1];
+    axis[2] = v[2];
+    axis[3] = v[3];
+    axis[4] = v[4];
+    axis[5] = v[5];
+    axis[6] = v[6];
+    axis[7] = v[7];
+    axis[8] = v[8];
+    axis[9] = v[9];
+    axis[10] = v[10];
+    axis[11] = v[11];
+    axis[12] = v[12];
+    axis[13] = v[13];
+}
+
+// The settings of these values come into force, and homing is idle (01: takeover).
+pub fn activate(axis: &mut Lent, values: [u32; 14])
+    ensures { λ _. ⌜ Activated (now (axis .entry)) values (now (axis .exit)) ⌝ }
+{
+    lent(*axis);
+    put_values(axis, values);
+    axis[PHASE] = homing::IDLE;
+}
+
+fn motion_words(m: Motion) -> [u32; 8]
+    ensures { λ r. ⌜ r ≡ motionWords m ⌝ }
+{
+    let state = m.state;
+    let mode = m.mode;
+    let switches = m.switches;
+    let home = patterns::pattern(m.home);
+    let position = patterns::pattern(m.position);
+    [
+        states::state_number(state),
+        modes::place(mode),
+        m.alarm,
+        m.phase,
+        home,
+        m.control as u32,
+        patterns::switch_bits(switches),
+        position,
+    ]
+}
+
+fn put_words(axis: &mut Lent, w: [u32; 8])
+    ensures { λ _. ⌜ now (axis .exit) ≡ sets (now (axis .entry)) 29 (cells 8 w) ⌝ }
+{
+    axis[STATE] = w[0];
+    axis[MODE] = w[1];
+    axis[ALARM] = w[2];
+    axis[PHASE] = w[3];
+    axis[HOME] = w[4];
+    axis[CONTROL] = w[5];
+    axis[SWITCHES] = w[6];
+    axis[POSITION] = w[7];
+}
+
+// What a tick leaves.
+pub fn put_motion(axis: &mut Lent, m: Motion)
+    ensures { λ _. ⌜ Moved (now (axis .entry)) m (now (axis .exit)) ⌝ }
+{
+    lent(*axis);
+    let words = motion_words(m);
+    put_words(axis, words);
+}

@@ -1,0 +1,41 @@
+-- Switches, states and modes as words; every word means one of each.
+-- Assumes nothing.
+use Prim.Native.Nat.{ℕ, _+_}
+use mathlib.Core.Bool.{Bool, cond}
+use mathlib.Core.List.{List}
+use lib.Dec.{eqb}
+use lib.ListN.{getD}
+use Rattle.counts.specs.Bit.{bitOf}
+use Rattle.legs.specs.declared.events.Switches.{Switches}
+use Rattle.states.specs.declared.State.{State}
+use Rattle.states.specs.declared.State.the-variants.{NotReady, SwitchOnDisabled, Ready, SwitchedOn, OperationEnabled, QuickStopActive, FaultReaction, Fault}
+use Rattle.modes.specs.declared.Mode.{Mode}
+use Rattle.modes.specs.declared.Mode.the-variants.{None, Hybrid, Homing, Position, Torque}
+
+-- a word of a list; past the last stand zeros
+abbrev pub wordAt : List ℕ → ℕ → ℕ
+wordAt l k = getD l k 0
+
+-- four switches as a word's low bits, in the order POT, NOT, HOM, Z
+abbrev pub switchesIn : ℕ → Switches
+switchesIn bits = record { positive = bitOf bits 0; negative = bitOf bits 1; home = bitOf bits 2; index = bitOf bits 3 }
+
+abbrev pub weighed : Bool → ℕ → ℕ
+weighed on weight = cond on weight 0
+
+abbrev pub switchBits : Switches → ℕ
+switchBits s = weighed (s .positive) 1 + weighed (s .negative) 2 + weighed (s .home) 4 + weighed (s .index) 8
+
+-- the state of a `stateNumber`, the mode of a `modePlace`; of a number past the last, what a fresh axis has
+unfoldable pub stateOf : ℕ → State
+stateOf n =
+    cond (eqb n 1) SwitchOnDisabled
+    (cond (eqb n 2) Ready
+    (cond (eqb n 3) SwitchedOn
+    (cond (eqb n 4) OperationEnabled
+    (cond (eqb n 5) QuickStopActive
+    (cond (eqb n 6) FaultReaction
+    (cond (eqb n 7) Fault NotReady))))))
+
+unfoldable pub modeOf : ℕ → Mode
+modeOf n = cond (eqb n 1) Hybrid (cond (eqb n 2) Homing (cond (eqb n 3) Position (cond (eqb n 4) Torque None)))

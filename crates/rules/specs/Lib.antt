@@ -1,0 +1,4 @@
+pub mod Axis
+pub mod Takeover
+pub mod Word
+pub mod Tick

@@ -1,0 +1,54 @@
+-- What an axis keeps from tick to tick: the drive's state, homing, and the inputs of the tick before. What a fresh axis keeps (01, "Homing
+-- routes" and "A tick"), and what a takeover clears of it (01, "The sheet").
+-- Assumes nothing.
+use Prim.Native.Nat.{ℕ}
+use lib.IntN.{ℤ, pos}
+use Rattle.legs.specs.declared.events.Switches.{Switches}
+use Rattle.legs.specs.Events.{allOff}
+use Rattle.states.specs.declared.State.{State}
+use Rattle.states.specs.declared.State.the-variants.{NotReady}
+use Rattle.modes.specs.declared.Mode.{Mode}
+use Rattle.modes.specs.declared.Mode.the-variants.{None}
+use Rattle.homing.specs.Phase.{Phase, Idle}
+
+pub record Motion : Type 0 where
+  pub state : State
+  -- modes of operation display (01: shown mode)
+  pub mode : Mode
+  -- latched alarm number
+  pub alarm : ℕ
+  pub phase : Phase
+  -- the count of home; of no meaning unless homed
+  pub home : ℤ
+  -- remembered inputs
+  pub control : ℕ
+  pub switches : Switches
+  pub position : ℤ
+
+-- "state Not ready, idle homing and neither homed nor error"; "a fresh axis remembers zeros and shows mode 0, alarm 0"
+abbrev pub freshMotion : Motion
+freshMotion =
+    record {
+      state = NotReady;
+      mode = None;
+      alarm = 0;
+      phase = Idle;
+      home = pos 0;
+      control = 0;
+      switches = allOff;
+      position = pos 0;
+    }
+
+-- "homed and homing error are cleared, homing is idle; drive state, shown mode, alarm number and remembered inputs stay"
+abbrev pub idled : Motion → Motion
+idled a =
+    record {
+      state = a .state;
+      mode = a .mode;
+      alarm = a .alarm;
+      phase = Idle;
+      home = a .home;
+      control = a .control;
+      switches = a .switches;
+      position = a .position;
+    }
