@@ -1,16 +1,19 @@
-/* One axis, and the writer of its settings, for C99 and C++11. Link with libexports.a (`rt staticlib exports`).
+/* One axis, and the writer of its settings, for C99 and C++11. Link with libexports.a (`rt staticlib exports`), which is for x86-64.
  *
- * An axis lives in AXIS_WORDS words that you lend to each call; nothing of it is kept elsewhere. Make it fresh once, feed it settings words,
- * and tick it once a cycle; words and ticks may come in any order.
+ * An axis lives in AXIS_WORDS words that you lend to each call; nothing of it is kept elsewhere. Make it fresh once, feed it the settings words
+ * that axis_write made, in their order, and tick it once a cycle; words and ticks may come in any order.
  *
- * - Every array is aligned to 4 bytes, as its type is, and no pointer is null. The arrays lent to one call do not overlap.
- * - No call keeps a pointer, allocates, blocks or has a state of its own. One axis is used by one caller at a time; two axes may be used at once.
+ * - Every array is aligned to 4 bytes, as its type is, and no pointer is null, also not that of a buffer of no words. The arrays lent to one call
+ *   do not overlap.
+ * - No call keeps a pointer, allocates, blocks or has a state of its own. One axis is used by one caller at a time, an
+ *   interrupt handler being a caller too; two axes may be used at once.
  * - Every value of every number is answered, and every content of the axis's words is some axis: zeros are a fresh one too. Rely on axis_fresh
  *   all the same: what the words mean is the library's own affair.
  *
  * Units. Positions: counts of the encoder, modulo 2^32. Targets, home offset and software position limits: user units, a gear ratio away from
- * counts. Speeds: counts in a unit of time that is yours; a homing speed is handed out as it was set. Torques: thousandths of the rated torque,
- * which itself is in millinewton metres. A number marked (signed) is two's complement: cast it from and to int32_t. */
+ * counts. Speeds: a unit of yours; a homing speed is handed out as it was set, with the sign of its direction. Torques: thousandths of the rated torque,
+ * which itself is in millinewton metres. A number marked (signed) is two's complement over 32 bits: cast it from and to int32_t, never by way of a narrower
+ * unsigned type. */
 #ifndef AXIS_H
 #define AXIS_H
 
@@ -25,21 +28,23 @@ extern "C" {
 #define AXIS_FLOATS  7 /* floats of a tick's inputs */
 #define AXIS_ANSWER  7 /* words of a tick's answer */
 #define AXIS_FIELDS 15 /* fields of settings, one a word */
-#define AXIS_SHEET  15 /* words that carry settings to an axis */
+#define AXIS_SETTINGS_WORDS 15 /* words that carry settings to an axis */
 
 /* Makes the axis fresh, whatever the words held: no settings, drive state Not ready to switch on, homing idle. */
 void axis_fresh(uint32_t axis[AXIS_WORDS]);
 
-/* Takes one settings word. Returns AXIS_ACCEPTED, or the refusal (1 to 7); a refused word empties the unfinished settings, so that they begin
- * again with their first word. The last word brings all fields into force together, and the axis is homed no more and homing idle; until then
- * the settings in force stay. */
+/* Takes one settings word: a kind in the top 4 bits, data in the low 28. Kinds come in rising order from the start word (0) to the end word (15),
+ * whose data is the sum of all data before it, modulo 2^28; a start word begins afresh at any time. Returns AXIS_ACCEPTED, or the refusal (1 to 7; an
+ * end word is tested 1, 4, 5, 6, 7, another 1, then 2 or 3). A refused word empties the unfinished settings, so that they begin again with their
+ * first word. An end word that is accepted brings all fields into force together, and the axis is neither homed nor in homing error any more and homing
+ * is idle; until then the settings in force stay. */
 uint32_t axis_word(uint32_t axis[AXIS_WORDS], uint32_t word);
 
 /* One tick: takes its inputs and writes every word of its answer. Returns the answer's first word: AXIS_ACCEPTED, or AXIS_NO_SETTINGS, where the
  * other six are 0 and the axis stays as it was. The floats are looked at by a hybrid command alone, but seven are lent in each call. */
 uint32_t axis_tick(uint32_t axis[AXIS_WORDS], const uint32_t event[AXIS_EVENT], const float floats[AXIS_FLOATS], uint32_t answer[AXIS_ANSWER]);
 
-/* Writes settings as their AXIS_SHEET words to the front of a buffer of `length` words, and leaves the rest of it alone. Returns AXIS_ACCEPTED,
+/* Writes settings as their AXIS_SETTINGS_WORDS words to the front of a buffer of `length` words, and leaves the rest of it alone. Returns AXIS_ACCEPTED,
  * or the refusal, tested in the order 9, 3, 5, 6, and then leaves all of it alone. The length has 64 bits on a 32-bit machine too. */
 uint32_t axis_write(const uint32_t fields[AXIS_FIELDS], uint32_t *buffer, uint64_t length);
 
@@ -54,22 +59,24 @@ enum {
     AXIS_OUT_OF_REACH = 6,      /* a software position limit, geared, is beyond 2^30 counts either way */
     AXIS_DRIVE_ACTIVE = 7,      /* an end word in Operation enabled or Quick stop active */
     AXIS_NO_SETTINGS = 8,       /* a tick before any settings are in force */
-    AXIS_BUFFER_TOO_SHORT = 9   /* fewer than AXIS_SHEET words */
+    AXIS_BUFFER_TOO_SHORT = 9   /* fewer than AXIS_SETTINGS_WORDS words */
 };
 
 /* The words of an event. Seven zeros are rest with the voltage disabled, at position 0. */
 enum {
     AXIS_EVENT_COMMAND = 0,  /* AXIS_COMMAND_... */
-    AXIS_EVENT_CONTROL = 1,  /* control word, 16 bits; a greater number is none: it is taken as 0000, disable voltage, and never enables */
+    AXIS_EVENT_CONTROL = 1,  /* control word: bits 0 to 3 and 7 command the drive (0006 shutdown, 0007 switch on, 000F enable, 0000 disable
+                                voltage, 0002 quick stop; bit 7, on its rise, resets a fault), bit 4, on its rise, starts homing and keeps it
+                                running, bit 8 halts it. A number of more than 16 bits is none: it is taken as 0000 and never enables */
     AXIS_EVENT_POSITION = 2, /* actual position, counts (signed) */
     AXIS_EVENT_INPUTS = 3,   /* AXIS_INPUT_..., summed; other bits are not looked at */
     AXIS_EVENT_ALARM = 4,    /* alarm word: any bit is an alarm */
-    AXIS_EVENT_TORQUE = 5,   /* torque request of homing, position and torque (signed), 16 bits; one beyond is taken as the nearest of 16 bits,
-                                which no torque limit can tell from it */
+    AXIS_EVENT_TORQUE = 5,   /* torque request of homing, position and torque (signed): (uint32_t)(int32_t)request, so that -1 is FFFFFFFF and not
+                                0000FFFF; one beyond 16 bits is taken as the nearest of 16 bits, which no torque limit can tell from it */
     AXIS_EVENT_TARGET = 6    /* target of position, user units (signed) */
 };
 
-/* The command of a tick; any other number is rest too. */
+/* The command of a tick; any other number is rest too, which asks for no torque and leaves the shown mode. */
 enum { AXIS_COMMAND_REST = 0, AXIS_COMMAND_HYBRID = 1, AXIS_COMMAND_HOMING = 2, AXIS_COMMAND_POSITION = 3, AXIS_COMMAND_TORQUE = 4 };
 
 enum {
@@ -82,8 +89,8 @@ enum {
 };
 
 /* The floats of a hybrid command: radians, radians a second, newton metres. It asks for the torque KP (pd - p) + KD (vd - v) + T, by single
- * floats, each operation rounded once to nearest: the machine must not be set to round otherwise or to flush to zero. Where the torque, as
- * thousandths of the rated one, is not finite, bit 31 of the alarm word counts as set. */
+ * floats, each operation rounded once to nearest: the machine must not be set to round otherwise or to flush to zero. What is demanded is the whole part,
+ * towards zero, of the torque in thousandths of the rated one; where that is not finite, bit 31 of the alarm word counts as set, in any mode. */
 enum {
     AXIS_FLOAT_KP = 0, /* gain of position */
     AXIS_FLOAT_KD = 1, /* gain of speed */
@@ -100,7 +107,10 @@ enum {
     AXIS_ANSWER_TORQUE = 1,     /* commanded torque, thousandths of the rated torque (signed) */
     AXIS_ANSWER_SPEED = 2,      /* commanded speed (signed) */
     AXIS_ANSWER_POSITION = 3,   /* commanded position, counts (signed) */
-    AXIS_ANSWER_STATUSWORD = 4, /* statusword, 16 bits; bit 8: homed */
+    AXIS_ANSWER_STATUSWORD = 4, /* statusword. Bits 0 to 9 by drive state: 0000 not ready, 0250 switch on disabled, 0231 ready, 0233 switched on,
+                                   0237 operation enabled, 0217 quick stop, 020F fault reaction, 0208 fault. Bit 8: homed. Bit 11: a limit switch is
+                                   on, or the followed target was clamped. In mode 6 bit 10: homing does not run, 12: homed, 13: homing error; in
+                                   mode 8 bit 12: a target is followed */
     AXIS_ANSWER_MODE = 5,       /* modes of operation display (signed): -1 hybrid, 6 homing, 8 position, 10 torque, 0 none yet */
     AXIS_ANSWER_ALARM = 6       /* alarm number: place of the lowest alarm bit, from 1, as Fault reaction was entered; 0 none */
 };

@@ -2,7 +2,7 @@
 -- Assumes nothing.
 use Prim.Native.Nat.{ℕ, zero, suc, _+_, _<_, _≤_}
 use mathlib.Core.Path.{_≡_, refl, sym, ap, ap₂, _∙_}
-use mathlib.Core.Bool.{Bool, true, false, cond}
+use mathlib.Core.Bool.{Bool, true, false, cond, true≢false}
 use mathlib.Core.List.{List, _∷_}
 use native.Mathlib.Omega.{arith}
 use borrow.Author.Tests.{lt-ltb, ltb-true, ltb-false}
@@ -16,16 +16,15 @@ use Rattle.settings.specs.declared.Verdict.the-variants.{Accepted, Refused}
 use Rattle.states.specs.States.{liveOf}
 use Rattle.words.specs.Decode.{settingsOf}
 use Rattle.reader.specs.Pending.{Pending, Reading, Complete}
-use Rattle.reader.specs.Read.{emptyPending, dueKind, kept, refused, stored, complete, judged, endVerdict, endOf, readOf}
+use Rattle.reader.specs.Read.{dueKind, kept, refused, stored, complete, judged, endVerdict, endOf, readOf}
 use Rattle.reader.specs.Cases.{isEnd}
-use Rattle.reader.proofs.Steps.{end-judged}
 use Rattle.rules.specs.Axis.{Axis, Worded}
 use Rattle.rules.specs.Word.{taken, wordOf}
 use Rattle.patterns.specs.Patterns.{wordAt}
 use Rattle.cells.specs.Lists.{cellsFrom, valuesFrom}
 use Rattle.cells.specs.Cells.{valueIn, pendingIn, motionIn, axisIn, MotionKept}
-use Rattle.cells.specs.Writes.{Pends, more, InputsKept, Activated}
-use Rattle.axis.specs.Calls.{Takes, WordCall, readIn, completedIn}
+use Rattle.cells.specs.Writes.{Pends, more, Emptied, InputsKept, Activated}
+use Rattle.axis.specs.Calls.{Takes, WordCall, readIn, completedIn, Completes}
 
 -- where all of motion is kept, so are its inputs
 pub inputs-kept : (l m : List ℕ) → MotionKept l m → InputsKept l m
@@ -39,21 +38,43 @@ inputs-kept l m e =
 pub more-due : (p : Pending) (k x : ℕ) → k < 14 → k ≡ p .count → more p x ≡ kept p k x
 more-due p k x b e = rw (e, lt-ltb (p .count) 14 (omega (arith, e, b)))
 
+accepted-refused : {r : Refusal} → Accepted ≡ Refused r → ⊥
+accepted-refused {r} e = true≢false (ap isAccepted e)
+  where
+    isAccepted : Verdict → Bool
+    isAccepted Accepted = true
+    isAccepted (Refused r) = false
+
 -- other pending settings alone: the word's data is kept, or it is refused
 pub kept-word : (l m : List ℕ) (ends : Bool) (p : Pending) → Pends l p m → Takes l ends (readIn l (stored p)) m Accepted
-kept-word l m ends p c = record { axis = c .axis; verdict = refl; inputs = inputs-kept l m (c .motion); kept = λ n. (c .settings, c .motion) }
+kept-word l m ends p c =
+    record {
+      axis = c .axis;
+      verdict = refl;
+      inputs = inputs-kept l m (c .motion);
+      kept = λ n. (c .settings, c .motion);
+      refused = λ r e. absurd (accepted-refused e);
+    }
 
-pub refused-word : (l m : List ℕ) (ends : Bool) (r : Refusal) → Pends l emptyPending m → Takes l ends (readIn l (refused r)) m (Refused r)
-refused-word l m ends r c = record { axis = c .axis; verdict = refl; inputs = inputs-kept l m (c .motion); kept = λ n. (c .settings, c .motion) }
+pub refused-word : (l m : List ℕ) (ends : Bool) (r : Refusal) → Emptied l m → Takes l ends (readIn l (refused r)) m (Refused r)
+refused-word l m ends r c =
+    let p = c .pends in
+    record {
+      axis = p .axis;
+      verdict = refl;
+      inputs = inputs-kept l m (p .motion);
+      kept = λ n. (p .settings, p .motion);
+      refused = λ q e. c .words;
+    }
 
 -- an end word that completes settings: refused while the drive is live, else they come into force
-pub live-end : (l values : List ℕ) → liveOf (motionIn l .state) ≡ true → Takes l true (completedIn l values) l (Refused DriveActive)
+pub live-end : (l values : List ℕ) → liveOf (motionIn l .state) ≡ true → Completes l values l (Refused DriveActive)
 unfolding axisIn
-live-end l values e = record { axis = rw e; verdict = rw e; inputs = record { before = refl; after = refl }; kept = λ n. (refl, refl) }
+live-end l values e = record { axis = rw e; verdict = rw e; inputs = record { before = refl; after = refl }; kept = λ n. refl }
 
-pub activating-end : (l values m : List ℕ) → liveOf (motionIn l .state) ≡ false → Activated l values m → Takes l true (completedIn l values) m Accepted
+pub activating-end : (l values m : List ℕ) → liveOf (motionIn l .state) ≡ false → Activated l values m → Completes l values m Accepted
 unfolding axisIn
-activating-end l values m e c = record { axis = rw e (c .axis); verdict = rw e; inputs = c .motion; kept = λ n. absurd (n refl refl) }
+activating-end l values m e c = record { axis = rw e (c .axis); verdict = rw e; inputs = c .motion; kept = λ n. absurd (n refl) }
 
 -- once all have come, the values are the words themselves
 values-come : (l : List ℕ) (k n : ℕ) → k + n ≤ pendingIn l .count → valuesFrom k n (valueIn l) ≡ cellsFrom (15 + k) n l
@@ -66,28 +87,31 @@ values-come l k (suc n) h =
 
 ended : (l values : List ℕ) (sum : ℕ) → 14 ≤ pendingIn l .count → values ≡ cellsFrom 15 14 l
     → endOf (pendingIn l) sum ≡ judged (settingsOf values) (endVerdict values sum)
-ended l values sum h e = end-judged (pendingIn l) sum ∙ rw (values-come l 0 14 h, e)
+unfolding endOf
+ended l values sum h e = rw (values-come l 0 14 h, e)
 
 pub refused-end : (l values m : List ℕ) (sum : ℕ) (r : Refusal) → 14 ≤ pendingIn l .count → values ≡ cellsFrom 15 14 l
-    → endVerdict values sum ≡ Refused r → Pends l emptyPending m → Takes l true (readIn l (endOf (pendingIn l) sum)) m (Refused r)
+    → endVerdict values sum ≡ Refused r → Emptied l m → Takes l true (readIn l (endOf (pendingIn l) sum)) m (Refused r)
 refused-end l values m sum r h e v c =
     let g : endOf (pendingIn l) sum ≡ refused r = ended l values sum h e ∙ ap (judged (settingsOf values)) v in
     rw g (refused-word l m true r c)
 
 -- the words are emptied first, then the settings come into force or not
 pub complete-end : (l values m n : List ℕ) (sum : ℕ) (v : Verdict) → 14 ≤ pendingIn l .count → values ≡ cellsFrom 15 14 l
-    → endVerdict values sum ≡ Accepted → Pends l emptyPending m → Takes m true (completedIn m values) n v
+    → endVerdict values sum ≡ Accepted → Emptied l m → Completes m values n v
     → Takes l true (readIn l (endOf (pendingIn l) sum)) n v
 complete-end l values m n sum v h e a c d =
     let g : endOf (pendingIn l) sum ≡ complete (settingsOf values) = ended l values sum h e ∙ ap (judged (settingsOf values)) a in
-    let x : completedIn m values ≡ readIn l (complete (settingsOf values)) = ap (λ (b : Axis). taken b (Complete (settingsOf values))) (c .axis) in
-    let i = inputs-kept l m (c .motion) in
+    let x : completedIn m values ≡ readIn l (complete (settingsOf values)) = ap (λ (b : Axis). taken b (Complete (settingsOf values))) (c .pends .axis) in
+    let p = c .pends in
+    let i = inputs-kept l m (p .motion) in
     rw g
     (record {
       axis = d .axis ∙ ap (λ (y : Worded). y .axis) x;
       verdict = d .verdict ∙ ap (λ (y : Worded). y .verdict) x;
       inputs = record { before = d .inputs .before ∙ i .before; after = d .inputs .after ∙ i .after };
-      kept = λ q. (d .kept q .0 ∙ c .settings, d .kept q .1 ∙ c .motion);
+      kept = λ q. let k = d .kept (λ a. q a refl) in (ap (take 14) k ∙ p .settings, ap (drop 29) k ∙ p .motion);
+      refused = λ r q. d .kept (λ a. accepted-refused (sym a ∙ q)) ∙ c .words;
     })
 
 -- the whole word is what its branch is

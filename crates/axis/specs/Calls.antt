@@ -5,23 +5,24 @@ use Prim.Native.Nat.{ℕ}
 use mathlib.Core.Path.{_≡_}
 use mathlib.Core.Bool.{Bool, true}
 use mathlib.Core.List.{List}
-use lib.ListN.{take}
+use Rattle.settings.specs.declared.Refusal.{Refusal}
 use Rattle.settings.specs.declared.Verdict.{Verdict}
-use Rattle.settings.specs.declared.Verdict.the-variants.{Accepted}
+use Rattle.settings.specs.declared.Verdict.the-variants.{Accepted, Refused}
 use Rattle.words.specs.Decode.{settingsOf}
 use Rattle.reader.specs.Pending.{Reading, Complete}
 use Rattle.reader.specs.Cases.{isEnd}
 use Rattle.ticks.specs.declared.Tick.{Tick}
 use Rattle.answers.specs.declared.Answer.{Answer}
 use Rattle.answers.specs.Answer.{answeredIn}
-use Rattle.rules.specs.Axis.{Nothing, Worded, freshAxis}
+use Rattle.rules.specs.Axis.{Nothing, Worded}
 use Rattle.rules.specs.Word.{withPending, taken, wordOf}
 use Rattle.rules.specs.Tick.{tickOf, gone}
-use Rattle.cells.specs.Cells.{settingsIn, activeIn, motionIn, axisIn, SettingsKept, MotionKept}
-use Rattle.cells.specs.Writes.{InputsKept}
+use Rattle.cells.specs.Cells.{settingsIn, activeIn, motionIn, axisIn, SettingsKept, FrontKept, MotionKept}
+use Rattle.cells.specs.Writes.{Cleared, emptied, InputsKept}
 
+-- a fresh axis; its words are zeros
 abbrev pub FreshCall : List ℕ → Type 0
-FreshCall m = axisIn m ≡ freshAxis
+FreshCall m = Cleared m
 
 -- a word that does x, and whether it is an end word
 pub record Takes (l : List ℕ) (ends : Bool) (x : Worded) (m : List ℕ) (v : Verdict) : Type 0 where
@@ -31,6 +32,8 @@ pub record Takes (l : List ℕ) (ends : Bool) (x : Worded) (m : List ℕ) (v : V
   pub inputs : InputsKept l m
   -- and but for an end word that is accepted, which activates settings, no word of the settings in force or of motion changes
   pub kept : (v ≡ Accepted → ends ≡ true → ⊥) → SettingsKept l m × MotionKept l m
+  -- a refused word writes the count of those pending, and nothing else
+  pub refused : (r : Refusal) → v ≡ Refused r → m ≡ emptied l
 
 abbrev pub WordCall : List ℕ → ℕ → List ℕ → Verdict → Type 0
 WordCall l w m v = Takes l (isEnd w) (wordOf (axisIn l) w) m v
@@ -39,7 +42,7 @@ pub record TickCall (l : List ℕ) (t : Tick) (m : List ℕ) (a : Answer) : Type
   pub axis : axisIn m ≡ tickOf (axisIn l) t .axis
   pub answer : a ≡ tickOf (axisIn l) t .answer
   -- no word of the settings in force or of what is pending changes
-  pub kept : take 29 m ≡ take 29 l
+  pub kept : FrontKept l m
   -- and none at all where the tick is refused
   pub refused : activeIn l ≡ Nothing → m ≡ l
 
@@ -49,12 +52,18 @@ pub record TickCall (l : List ℕ) (t : Tick) (m : List ℕ) (a : Answer) : Type
 abbrev pub readIn : List ℕ → Reading → Worded
 readIn l g = taken (withPending (axisIn l) (g .pending)) (g .outcome)
 
--- an end word that completes the settings of these values, with nothing pending any more
+-- an end word that completes the settings of these values; what is pending has been emptied before
 abbrev pub completedIn : List ℕ → List ℕ → Worded
 completedIn l values = taken (axisIn l) (Complete (settingsOf values))
+
+pub record Completes (l values m : List ℕ) (v : Verdict) : Type 0 where
+  pub axis : axisIn m ≡ completedIn l values .axis
+  pub verdict : v ≡ completedIn l values .verdict
+  pub inputs : InputsKept l m
+  pub kept : (v ≡ Accepted → ⊥) → m ≡ l
 
 -- a tick under the settings of words 0 to 13
 pub record Runs (l : List ℕ) (t : Tick) (m : List ℕ) (a : Answer) : Type 0 where
   pub axis : axisIn m ≡ gone (axisIn l) (answeredIn (settingsIn l) (motionIn l) t) .axis
   pub answer : a ≡ answeredIn (settingsIn l) (motionIn l) t .answer
-  pub kept : take 29 m ≡ take 29 l
+  pub kept : FrontKept l m

@@ -1,5 +1,5 @@
 // One axis, fed by settings words and ticks. It lives in words that the caller lends, which `cells` alone reads and writes.
-mod running;
+mod under;
 
 use answers::Answer;
 use cells::Lent;
@@ -12,7 +12,7 @@ ghost use mathlib.Core.Bool.{true, false};
 ghost use Prim.Native.Nat.{_<_, _≤_};
 ghost use Rattle.reader.specs.Read.{startOf, fieldOf, endOf};
 ghost use Rattle.cells.specs.Cells.{pendingIn};
-ghost use Rattle.axis.specs.Calls.{FreshCall, Takes, readIn, completedIn, WordCall, TickCall};
+ghost use Rattle.axis.specs.Calls.{FreshCall, Takes, readIn, Completes, WordCall, TickCall};
 
 // A fresh axis: no settings, nothing pending, Not ready, homing idle.
 pub fn fresh(axis: &mut Lent)
@@ -40,7 +40,7 @@ fn store(axis: &mut Lent, kind: u32, value: u32) -> Verdict
     ensures { λ r. ⌜ Takes (now (axis .entry)) false (readIn (now (axis .entry)) (fieldOf (pendingIn (now (axis .entry))) kind value)) (now (axis .exit)) r ⌝ }
 {
     if kinds::field_ok(kind, value) {
-        cells::keep(axis, value);
+        cells::append(axis, value);
         Verdict::Accepted
     } else {
         cells::empty(axis);
@@ -50,7 +50,7 @@ fn store(axis: &mut Lent, kind: u32, value: u32) -> Verdict
 
 // Complete settings come into force (01: takeover), unless the drive is live.
 fn complete(axis: &mut Lent, values: [u32; 14]) -> Verdict
-    ensures { λ r. ⌜ Takes (now (axis .entry)) true (completedIn (now (axis .entry)) values) (now (axis .exit)) r ⌝ }
+    ensures { λ r. ⌜ Completes (now (axis .entry)) values (now (axis .exit)) r ⌝ }
 {
     let state = cells::state(axis);
     if states::is_live(state) {
@@ -101,7 +101,7 @@ pub fn tick(axis: &mut Lent, t: Tick) -> Answer
     ensures { λ r. ⌜ TickCall (now (axis .entry)) t (now (axis .exit)) r ⌝ }
 {
     if cells::is_active(axis) {
-        running::tick(axis, t)
+        under::tick(axis, t)
     } else {
         answers::refused(Refusal::NoSettings)
     }

@@ -4,22 +4,21 @@ use Prim.Native.Nat.{ℕ, zero, suc, _+_, _%_, _^_, _<_}
 use mathlib.Core.Path.{_≡_, refl}
 use mathlib.Core.List.{List, _∷_}
 use native.Mathlib.Omega.{arith}
-use lib.ListN.{length, set, replicate}
+use lib.ListN.{length, set}
 use lib.Seq.{sets}
 use lib.Signed.{mag}
 use Rattle.counts.specs.Wrap.{modulo, signed, wrapped}
 use Rattle.words.specs.Decode.{settingsOf}
-use Rattle.reader.specs.Read.{emptyPending, started, kept}
-use Rattle.rules.specs.Axis.{freshAxis}
+use Rattle.reader.specs.Read.{started, kept}
 use Rattle.patterns.specs.Patterns.{wordAt, stateOf, modeOf}
 use Rattle.patterns.proofs.Back.{signed-back, bits-back, state-back, mode-back}
 use Rattle.cells.specs.Lists.{cellsFrom}
-use Rattle.cells.specs.Cells.{activeIn, pendingIn, axisIn}
-use Rattle.cells.specs.Writes.{Pends, Activated, motionWords, Moved}
+use Rattle.cells.specs.Cells.{activeIn, pendingIn, axisIn, ZerosAreFresh}
+use Rattle.cells.specs.Writes.{Pends, emptied, Emptied, Activated, motionWords, Remembered}
 use Rattle.cells.specs.declared.Motion as stored
 use Rattle.cells.proofs.Lists.{spelled}
 
-pub cleared : axisIn (replicate 37 0) ≡ freshAxis
+pub cleared : ZerosAreFresh
 unfolding axisIn activeIn stateOf modeOf modulo signed wrapped
 cleared = refl
 
@@ -28,9 +27,9 @@ unfolding axisIn
 unchanged = record { axis = refl; settings = refl; motion = refl }
 
 module _ (l : List ℕ) (h : length l ≡ 37) where
-  pub emptied : Pends l emptyPending (set l 14 0)
+  pub emptying : Emptied l (emptied l)
   unfolding axisIn activeIn
-  emptied = rw (spelled 37 l h) (record { axis = refl; settings = refl; motion = refl })
+  emptying = record { pends = rw (spelled 37 l h) (record { axis = refl; settings = refl; motion = refl }); words = refl }
 
   pub begun : Pends l started (set (set l 14 1) 15 1)
   unfolding axisIn activeIn
@@ -65,9 +64,9 @@ pub record Fit (m : stored.Motion) : Type 0 where
   pub control : m .control < 2 ^ 16
   pub position : mag (m .position) < 2 ^ 31
 
-pub moved : (l : List ℕ) → length l ≡ 37 → (m : stored.Motion) → Fit m → Moved l m (sets l 29 (motionWords m))
+pub remembered : (l : List ℕ) → length l ≡ 37 → (m : stored.Motion) → Fit m → Remembered l m (sets l 29 (motionWords m))
 unfolding axisIn activeIn motionWords
-moved l h m f =
+remembered l h m f =
     let k : m .control % 2 ^ 16 ≡ m .control = omega arith in
     record {
       axis =

@@ -1,7 +1,7 @@
 -- What the lent words mean. Every content of them means some axis.
 --   0 to 13   the settings in force, as the data of their settings words; word 0 is 0 where none are in force
 --   14        how many settings words are pending
---   15 to 28  their data; a word at or beyond that count is of no meaning
+--   15 to 28  their data; word 15 + k is of no meaning where k is not below that count
 --   29 to 36  motion: state, mode, alarm number, homing phase, home, control word, switches, position
 -- Assumes nothing.
 use Prim.Native.Nat.{ℕ, _+_, _%_, _^_}
@@ -10,14 +10,14 @@ use mathlib.Core.Bool.{cond}
 use mathlib.Core.List.{List}
 use lib.Dec.{eqb, ltb}
 use lib.IntN.{pos}
-use lib.ListN.{take, drop}
+use lib.ListN.{take, drop, replicate}
 use Rattle.counts.specs.Wrap.{wrapped}
 use Rattle.settings.specs.declared.Settings.{Settings}
 use Rattle.words.specs.Decode.{settingsOf}
 use Rattle.reader.specs.Pending.{Pending}
 use Rattle.homing.specs.Phase.{phaseOf}
 use Rattle.ticks.specs.Motion.{Motion}
-use Rattle.rules.specs.Axis.{Active, Nothing, Set, Axis}
+use Rattle.rules.specs.Axis.{Active, Nothing, Set, Axis, freshAxis}
 use Rattle.patterns.specs.Patterns.{wordAt, switchesIn, stateOf, modeOf}
 use Rattle.cells.specs.Lists.{cellsFrom, valuesFrom}
 
@@ -51,12 +51,19 @@ motionIn l =
 unfoldable pub axisIn : List ℕ → Axis
 axisIn l = record { active = activeIn l; pending = pendingIn l; motion = motionIn l }
 
--- the words of the settings in force, of what is pending, and of motion are as before
+-- zeros are a fresh axis
+abbrev pub ZerosAreFresh : Type 0
+ZerosAreFresh = axisIn (replicate 37 0) ≡ freshAxis
+
+-- the words of the settings in force, of what is pending, of both, and of motion are as before
 abbrev pub SettingsKept : List ℕ → List ℕ → Type 0
 SettingsKept l m = take 14 m ≡ take 14 l
 
 abbrev pub PendingKept : List ℕ → List ℕ → Type 0
 PendingKept l m = take 15 (drop 14 m) ≡ take 15 (drop 14 l)
+
+abbrev pub FrontKept : List ℕ → List ℕ → Type 0
+FrontKept l m = take 29 m ≡ take 29 l
 
 abbrev pub MotionKept : List ℕ → List ℕ → Type 0
 MotionKept l m = drop 29 m ≡ drop 29 l

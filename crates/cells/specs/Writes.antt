@@ -5,7 +5,7 @@ use mathlib.Core.Path.{_≡_}
 use mathlib.Core.Bool.{cond}
 use mathlib.Core.List.{List, [], _∷_}
 use lib.Dec.{ltb}
-use lib.ListN.{take, drop}
+use lib.ListN.{take, drop, set, replicate}
 use Rattle.counts.specs.Wrap.{modulo}
 use Rattle.states.specs.States.{stateNumber}
 use Rattle.modes.specs.Modes.{modePlace}
@@ -17,11 +17,12 @@ use Rattle.ticks.specs.Motion.{Motion, idled}
 use Rattle.rules.specs.Axis.{Set, freshAxis}
 use Rattle.rules.specs.Word.{withPending}
 use Rattle.patterns.specs.Patterns.{switchBits}
-use Rattle.cells.specs.Cells.{pendingIn, motionIn, axisIn, SettingsKept, PendingKept, MotionKept}
+use Rattle.cells.specs.Cells.{pendingIn, motionIn, axisIn, SettingsKept, PendingKept, FrontKept, MotionKept}
 use Rattle.cells.specs.declared.Motion as stored
 
-abbrev pub Cleared : List ℕ → Type 0
-Cleared m = axisIn m ≡ freshAxis
+pub record Cleared (m : List ℕ) : Type 0 where
+  pub axis : axisIn m ≡ freshAxis
+  pub words : m ≡ replicate 37 0
 
 -- other pending settings, and nothing else
 pub record Pends (l : List ℕ) (p : Pending) (m : List ℕ) : Type 0 where
@@ -29,8 +30,13 @@ pub record Pends (l : List ℕ) (p : Pending) (m : List ℕ) : Type 0 where
   pub settings : SettingsKept l m
   pub motion : MotionKept l m
 
-abbrev pub Emptied : List ℕ → List ℕ → Type 0
-Emptied l m = Pends l emptyPending m
+-- nothing pending: the count alone is written
+abbrev pub emptied : List ℕ → List ℕ
+emptied l = set l 14 0
+
+pub record Emptied (l m : List ℕ) : Type 0 where
+  pub pends : Pends l emptyPending m
+  pub words : m ≡ emptied l
 
 abbrev pub Begun : List ℕ → List ℕ → Type 0
 Begun l m = Pends l started m
@@ -39,8 +45,8 @@ Begun l m = Pends l started m
 abbrev pub more : Pending → ℕ → Pending
 more p x = cond (ltb (p .count) 14) (kept p (p .count) x) p
 
-abbrev pub Kept : List ℕ → ℕ → List ℕ → Type 0
-Kept l x m = Pends l (more (pendingIn l) x) m
+abbrev pub Appended : List ℕ → ℕ → List ℕ → Type 0
+Appended l x m = Pends l (more (pendingIn l) x) m
 
 -- all words of motion but the phase
 pub record InputsKept (l m : List ℕ) : Type 0 where
@@ -79,6 +85,6 @@ motionWords s =
     ∷ []
 
 -- motion is what a tick leaves; the settings in force and what is pending are kept
-pub record Moved (l : List ℕ) (s : stored.Motion) (m : List ℕ) : Type 0 where
+pub record Remembered (l : List ℕ) (s : stored.Motion) (m : List ℕ) : Type 0 where
   pub axis : axisIn m ≡ record { active = axisIn l .active; pending = axisIn l .pending; motion = motionOf s }
-  pub kept : take 29 m ≡ take 29 l
+  pub kept : FrontKept l m

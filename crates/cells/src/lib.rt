@@ -14,7 +14,7 @@ ghost use Rattle.homing.specs.Phase.{phaseOf};
 ghost use Rattle.patterns.specs.Patterns.{wordAt};
 ghost use Rattle.cells.specs.Lists.{cellsFrom, cells};
 ghost use Rattle.cells.specs.Cells.{settingsIn, pendingIn, motionIn};
-ghost use Rattle.cells.specs.Writes.{Cleared, Emptied, Begun, Kept, Activated, motionWords, Moved};
+ghost use Rattle.cells.specs.Writes.{Cleared, Emptied, Begun, Appended, Activated, motionWords, Remembered};
 
 // The lent words: the settings in force, what is pending, motion. Words 0 to 13 are the data of the settings words that came into force;
 // the first, the start word's, is 0 where none did.
@@ -225,8 +225,8 @@ pub fn begin(axis: &mut Lent)
 }
 
 // One word's data more is pending, unless all have come.
-pub fn keep(axis: &mut Lent, value: u32)
-    ensures { λ _. ⌜ Kept (now (axis .entry)) value (now (axis .exit)) ⌝ }
+pub fn append(axis: &mut Lent, value: u32)
+    ensures { λ _. ⌜ Appended (now (axis .entry)) value (now (axis .exit)) ⌝ }
 {
     lent(*axis);
     let count = axis[COUNT];
@@ -300,7 +300,7 @@ fn put_words(axis: &mut Lent, w: [u32; 8])
 
 // What a tick leaves.
 pub fn put_motion(axis: &mut Lent, m: Motion)
-    ensures { λ _. ⌜ Moved (now (axis .entry)) m (now (axis .exit)) ⌝ }
+    ensures { λ _. ⌜ Remembered (now (axis .entry)) m (now (axis .exit)) ⌝ }
 {
     lent(*axis);
     let words = motion_words(m);

@@ -2,7 +2,8 @@
 -- included: the settings in force are, in every field, the last ones activated; and each tick of the list, judged by the list up to it, is
 -- answered as `TickPromise` says. What is known of a list is read from the list alone, in `Known.antt`.
 -- Settings are 01's sheet; activated is taken over; to complete a route is to spell it; an Event is a word or a tick, not a leg's event.
--- `replies` and `axisOf` run `wordOf` and `tickOf`, which the public calls `Axis::word` and `Axis::tick` promise to equal.
+-- `replies` and `axisOf` run `wordOf` and `tickOf`, which the calls `axis::word` and `axis::tick` promise to equal (`axis/specs/Calls.antt`); of a
+-- C program's calls, see `exports/specs/Run.antt`.
 -- The theorem is `demand3 : (es : List Event) → Demand3 es`, in `proofs/Promised.antt`.
 -- Assumes nothing.
 use mathlib.Core.Path.{_≡_}

@@ -22,7 +22,7 @@ use Rattle.words.specs.Word.{sameWords}
 use Rattle.words.specs.Encode.{valuesOf, total, checksumOf, wordsFrom, wordsOf}
 use Rattle.words.specs.Decode.{settingsOf}
 use Rattle.kinds.specs.Fields.{fieldOk}
-use Rattle.reader.specs.Read.{startOf, fieldOf, endOf, readOf}
+use Rattle.reader.specs.Read.{startOf, fieldOf, endVerdict, endOf, readOf}
 use Rattle.roundtrip.specs.Examples.{words-S}
 use Rattle.control.specs.Control.{controlCommandOf}
 use Rattle.drive.specs.Transitions.{nextOf}
@@ -253,11 +253,11 @@ all [] = true
 all (b ∷ bs) = b && all bs
 
 holds : all table ≡ true
-unfolding table words-S modulo signed wrapped floorDiv clamped methodOk gearedOf inReach limitsVerdict total checksumOf settingsOf fieldOk startOf fieldOf endOf readOf controlCommandOf nextOf quotientOf sizeOf negative wholeOf ofBits sub mul div ofInt eventCounts limitCounts rowOf legAt places.entered places.runningOf places.startOf capOf torqueOf placeOf statuswordOf answerIn answeredIn wordOf newPhase tickOf
+unfolding table words-S modulo signed wrapped floorDiv clamped methodOk gearedOf inReach limitsVerdict total checksumOf settingsOf fieldOk startOf fieldOf endVerdict endOf readOf controlCommandOf nextOf quotientOf sizeOf negative wholeOf ofBits sub mul div ofInt eventCounts limitCounts rowOf legAt places.entered places.runningOf places.startOf capOf torqueOf placeOf statuswordOf answerIn answeredIn wordOf newPhase tickOf
 holds = refl
 
 homed-holds : all homed-table ≡ true
-unfolding homed-table words-S modulo signed wrapped floorDiv methodOk gearedOf inReach limitsVerdict total checksumOf settingsOf fieldOk startOf fieldOf endOf readOf controlCommandOf nextOf eventCounts limitCounts rowOf legAt places.entered places.limitAt places.runningOf places.startOf statuswordOf answerIn answeredIn wordOf newPhase tickOf
+unfolding homed-table words-S modulo signed wrapped floorDiv methodOk gearedOf inReach limitsVerdict total checksumOf settingsOf fieldOk startOf fieldOf endVerdict endOf readOf controlCommandOf nextOf eventCounts limitCounts rowOf legAt places.entered places.limitAt places.runningOf places.startOf statuswordOf answerIn answeredIn wordOf newPhase tickOf
 homed-holds = refl
 
 readings-hold : all reading-table ≡ true

@@ -1,4 +1,4 @@
--- Whatever is called after fresh words is answered as the rules answer that list: by induction on the calls.
+-- Whatever is called is answered as the rules answer that list of events: by induction on the calls.
 -- Assumes nothing.
 use Prim.Native.Nat.{ℕ}
 use mathlib.Core.Path.{_≡_, refl, ap, _∙_}
@@ -8,12 +8,12 @@ use Rattle.cells.specs.Cells.{axisIn}
 use Rattle.demands.specs.Events.{Event}
 use Rattle.demands.specs.Replies.{axisFrom, repliesFrom}
 use Rattle.demands.proofs.Promised.{demand3}
-use Rattle.exports.specs.Run.{Run, none, call-word, call-tick, shown, AllRuns}
+use Rattle.exports.specs.Run.{Run, none, call-word, call-tick, shown, AllRuns, AllFreshRuns}
 
 replied-from : {l m : List ℕ} {es : List Event} {out : List (List ℕ)} → Run l es out m → out ≡ map shown (repliesFrom (axisIn l) es)
 replied-from none = refl
 replied-from (call-word c r) = rw (c .said, c .call .verdict, replied-from r, c .call .axis)
-replied-from (call-tick c r) = rw (c .words, c .call .answer, replied-from r, c .call .axis)
+replied-from (call-tick c r) = rw (c .said, c .words, c .call .answer, replied-from r, c .call .axis)
 
 left-from : {l m : List ℕ} {es : List Event} {out : List (List ℕ)} → Run l es out m → axisIn m ≡ axisFrom (axisIn l) es
 left-from none = refl
@@ -21,9 +21,12 @@ left-from (call-word {es = es} c r) = left-from r ∙ ap (λ (a : Axis). axisFro
 left-from (call-tick {es = es} c r) = left-from r ∙ ap (λ (a : Axis). axisFrom a es) (c .call .axis)
 
 pub all-runs : AllRuns
-all-runs l m es out f r =
+all-runs l m es out r = record { replied = replied-from r; left = left-from r }
+
+pub all-fresh-runs : AllFreshRuns
+all-fresh-runs l m es out f r =
     record {
-      replied = replied-from r ∙ ap (λ (a : Axis). map shown (repliesFrom a es)) f;
-      left = left-from r ∙ ap (λ (a : Axis). axisFrom a es) f;
+      replied = replied-from r ∙ ap (λ (a : Axis). map shown (repliesFrom a es)) (f .axis);
+      left = left-from r ∙ ap (λ (a : Axis). axisFrom a es) (f .axis);
       demand3 = demand3 es;
     }

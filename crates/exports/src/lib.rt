@@ -3,7 +3,7 @@ use cells::Lent;
 ghost use mathlib.Core.Path.{_≡_};
 ghost use Rattle.settings.specs.Refusal.{verdictNumber};
 ghost use Rattle.writer.specs.Write.{writeVerdict, written};
-ghost use Rattle.records.specs.Words.{settingsIn};
+ghost use Rattle.records.specs.Words.{settingsOfFields};
 ghost use Rattle.exports.specs.Calls.{FreshCall, WordCall, TickCall};
 
 // A fresh axis.
@@ -40,9 +40,9 @@ pub extern "C" fn axis_tick(
 // The writer: settings as fifteen words to the front of the buffer. Returns 0, or the refusal's number.
 #[no_mangle]
 pub extern "C" fn axis_write(fields: &[u32; 15], buffer: &mut [u32]) -> u32
-    ensures verdict { λ r. ⌜ r ≡ verdictNumber (writeVerdict (settingsIn (now (fields .entry))) (now (buffer .entry))) ⌝ }
-    ensures words { λ _. ⌜ now (buffer .exit) ≡ written (settingsIn (now (fields .entry))) (now (buffer .entry)) ⌝ }
+    ensures verdict { λ r. ⌜ r ≡ verdictNumber (writeVerdict (settingsOfFields (now (fields .entry))) (now (buffer .entry))) ⌝ }
+    ensures words { λ _. ⌜ now (buffer .exit) ≡ written (settingsOfFields (now (fields .entry))) (now (buffer .entry)) ⌝ }
 {
-    let s = records::settings_in(fields);
+    let s = records::settings_of_fields(fields);
     settings::verdict_number(writer::write(s, buffer))
 }

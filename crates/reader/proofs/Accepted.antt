@@ -18,7 +18,7 @@ use Rattle.words.specs.Encode.{checksumOf}
 use Rattle.words.specs.Decode.{settingsOf}
 use Rattle.reader.specs.Pending.{Pending, Reading}
 use Rattle.kinds.specs.Fields.{fieldOk}
-use Rattle.reader.specs.Read.{dueKind, refused, stored, complete, started, kept, startOf, fieldOf, judged, endOf, readOf, outcomeNumber}
+use Rattle.reader.specs.Read.{dueKind, refused, stored, complete, started, kept, startOf, fieldOf, judged, endVerdict, endOf, readOf, outcomeNumber}
 use Rattle.reader.proofs.Steps.{read-start, read-out, read-end, read-field, due-below}
 
 pub data AcceptedBy (p : Pending) (w : ℕ) : Type 0 where
@@ -73,11 +73,11 @@ module _ (p : Pending) (w : ℕ) where
       go false h e = refuses OutOfRange e
 
   end : kindOf w ≡ dueKind (p .count) → kindOf w ≡ 15 → ReadBy p w
-  unfolding endOf
+  unfolding endOf endVerdict
   end d k = go (eqb (dataOf w) (checksumOf (p .values))) refl (limitsVerdict s) refl (read-end p w d k)
     where
       go : (a : Bool) → eqb (dataOf w) (checksumOf (p .values)) ≡ a → (v : Verdict) → limitsVerdict s ≡ v
-          → readOf p w ≡ cond a (judged s v) (refused ChecksumMismatch) → ReadBy p w
+          → readOf p w ≡ judged s (cond a v (Refused ChecksumMismatch)) → ReadBy p w
       go true h Accepted l e = accepted (closes (sym d ∙ k) (omega (arith, eqb-true (dataOf w) (checksumOf (p .values)) h)) l e)
       go true h (Refused r) l e = refuses r e
       go false h v l e = refuses ChecksumMismatch e

@@ -19,7 +19,7 @@ use Rattle.words.specs.Encode.{checksumOf}
 use Rattle.words.specs.Decode.{settingsOf}
 use Rattle.reader.specs.Pending.{Pending}
 use Rattle.kinds.specs.Fields.{fieldOk}
-use Rattle.reader.specs.Read.{refused, stored, started, kept, outOfSequence, startOf, fieldOf, judged, endOf, readOf, outcomeNumber}
+use Rattle.reader.specs.Read.{refused, stored, started, kept, outOfSequence, startOf, fieldOf, judged, endVerdict, endOf, readOf, outcomeNumber}
 use Rattle.reader.specs.Cases.{isStart, isEnd, testsOf, Numbers}
 
 judged-number : (s : Settings) (v : Verdict) → outcomeNumber (judged s v .outcome) ≡ verdictNumber v
@@ -31,11 +31,11 @@ module _ (p : Pending) (w : ℕ) where
   s = settingsOf (p .values)
 
   end-number : outcomeNumber (endOf p (dataOf w) .outcome) ≡ cond (not (eqb (dataOf w) (checksumOf (p .values)))) 4 (firstOf (checks.limitTests s))
-  unfolding endOf
+  unfolding endOf endVerdict
   end-number = go (eqb (dataOf w) (checksumOf (p .values)))
     where
       go : (a : Bool)
-          → outcomeNumber (cond a (judged s (limitsVerdict s)) (refused ChecksumMismatch) .outcome) ≡ cond (not a) 4 (firstOf (checks.limitTests s))
+          → outcomeNumber (judged s (cond a (limitsVerdict s) (Refused ChecksumMismatch)) .outcome) ≡ cond (not a) 4 (firstOf (checks.limitTests s))
       go true = judged-number s (limitsVerdict s) ∙ limits-number s
       go false = refl
 

@@ -6,14 +6,10 @@ use mathlib.Core.Bool.{Bool, true, false, cond, not, _&&_, true≢false}
 use native.Mathlib.Omega.{arith}
 use borrow.Author.Tests.{eq-eqb, ne-eqb, eqb-true, ltb-true}
 use lib.Dec.{eqb, ltb}
-use Rattle.settings.specs.declared.Refusal.the-variants.{OutOfSequence, ChecksumMismatch}
-use Rattle.settings.specs.declared.Verdict.the-variants as verdict
-use Rattle.checks.specs.Check.{limitsVerdict}
+use Rattle.settings.specs.declared.Refusal.the-variants.{OutOfSequence}
 use Rattle.reader.specs.Pending.{Pending}
 use Rattle.words.specs.Word.{kindOf, dataOf}
-use Rattle.words.specs.Encode.{checksumOf}
-use Rattle.words.specs.Decode.{settingsOf}
-use Rattle.reader.specs.Read.{dueKind, refused, startOf, fieldOf, judged, endVerdict, endOf, readOf}
+use Rattle.reader.specs.Read.{dueKind, refused, startOf, fieldOf, endOf, readOf}
 
 never : (b : Bool) → not b && not true ≡ false
 never true = refl
@@ -51,14 +47,3 @@ in-sequence k due e z = go (eqb k due) refl (rw (ne-eqb k 0 z) at e)
     go : (t : Bool) → eqb k due ≡ t → not t && true ≡ false → k ≡ due
     go true q e = eqb-true k due q
     go false q e = absurd (true≢false e)
-
--- the end word hands the settings out exactly where its verdict is to accept them
-pub end-judged : (p : Pending) (x : ℕ) → endOf p x ≡ judged (settingsOf (p .values)) (endVerdict (p .values) x)
-unfolding endOf endVerdict
-end-judged p x = go (eqb x (checksumOf (p .values)))
-  where
-    go : (t : Bool)
-        → cond t (judged (settingsOf (p .values)) (limitsVerdict (settingsOf (p .values)))) (refused ChecksumMismatch)
-        ≡ judged (settingsOf (p .values)) (cond t (limitsVerdict (settingsOf (p .values))) (verdict.Refused ChecksumMismatch))
-    go true = refl
-    go false = refl

@@ -69,8 +69,7 @@ unfoldable pub endVerdict : List ℕ → ℕ → Verdict
 endVerdict values x = cond (eqb x (checksumOf values)) (limitsVerdict (settingsOf values)) (verdict.Refused ChecksumMismatch)
 
 unfoldable pub endOf : Pending → ℕ → Reading
-endOf p x =
-    cond (eqb x (checksumOf (p .values))) (judged (settingsOf (p .values)) (limitsVerdict (settingsOf (p .values)))) (refused ChecksumMismatch)
+endOf p x = judged (settingsOf (p .values)) (endVerdict (p .values) x)
 
 -- "An end word is tested 1, 4, 5, 6, 7; other words 1, then 2 or 3"; 7 is the axis's
 unfoldable pub readOf : Pending → ℕ → Reading

@@ -39,7 +39,7 @@ controlIn w = cond (ltb w (2 ^ 16)) w 0
 abbrev pub requestAt : List ℕ → ℕ → ℤ
 requestAt e k = clamped (signedAt e k) (negsuc 32767) (pos 32767)
 
--- what bits 0 to 5 of the inputs say; no other is looked at
+-- the low half of the inputs, of which bits 0 to 5 are looked at
 abbrev pub inputsAt : List ℕ → ℕ → ℕ
 inputsAt e k = wordAt e k % 2 ^ 16
 
@@ -91,8 +91,8 @@ answerWords a =
     ∷ []
 
 -- fifteen fields in the order of the struct
-unfoldable pub settingsIn : List ℕ → Settings
-settingsIn f =
+unfoldable pub settingsOfFields : List ℕ → Settings
+settingsOfFields f =
     record {
       method = wordAt f 0;
       fast = wordAt f 1;

@@ -9,7 +9,7 @@ use ticks::Tick;
 use torque::LimitSet;
 ghost use mathlib.Core.Path.{_≡_};
 ghost use Rattle.patterns.specs.Patterns.{wordAt};
-ghost use Rattle.records.specs.Words.{floatAt, signedAt, controlIn, requestAt, gainsIn, set2If, commandIn, tickIn, settingsIn, answerWords};
+ghost use Rattle.records.specs.Words.{floatAt, signedAt, controlIn, requestAt, gainsIn, set2If, commandIn, tickIn, settingsOfFields, answerWords};
 
 // A word; 0 past the last.
 fn word(words: &[u32], at: usize) -> u32
@@ -123,8 +123,8 @@ pub fn answer_words(a: Answer) -> [u32; 7]
 }
 
 // Settings from their fifteen fields, in the order of the struct.
-pub fn settings_in(f: &[u32]) -> Settings
-    ensures { λ r. ⌜ r ≡ settingsIn (now (f .entry)) ⌝ }
+pub fn settings_of_fields(f: &[u32]) -> Settings
+    ensures { λ r. ⌜ r ≡ settingsOfFields (now (f .entry)) ⌝ }
 {
     Settings {
         method: word(f, 0),

@@ -17,7 +17,7 @@ use Rattle.words.specs.Decode.{settingsOf}
 use Rattle.words.proofs.Widths.{Below, values-below}
 use Rattle.reader.specs.Pending.{Pending, Reading}
 use Rattle.kinds.specs.Fields.{fieldOk}
-use Rattle.reader.specs.Read.{dueKind, stored, complete, started, kept, startOf, fieldOf, endOf, readOf, outcomeNumber}
+use Rattle.reader.specs.Read.{dueKind, stored, complete, started, kept, startOf, fieldOf, endVerdict, endOf, readOf, outcomeNumber}
 use Rattle.reader.proofs.Steps.{read-start, read-end, read-field}
 use Rattle.roundtrip.specs.ReadInto.{ReadInto, last, more}
 use Rattle.roundtrip.proofs.Values.{InFields, values-in-fields, values-read}
@@ -35,7 +35,7 @@ step p k x c z l h f =
 -- the end word
 close : (p : Pending) → p .count ≡ 14 → limitsVerdict (settingsOf (p .values)) ≡ Accepted
     → readOf p (wordOf 15 (checksumOf (p .values))) ≡ complete (settingsOf (p .values))
-unfolding endOf checksumOf
+unfolding endOf endVerdict checksumOf
 close p c l =
     let x = checksumOf (p .values) in
     let kind : kindOf (wordOf 15 x) ≡ 15 = omega arith in

@@ -15,8 +15,8 @@ use Rattle.axis.proofs.store.Tie as tie
 field-ok-requires : tie.Need-field-ok-requires
 field-ok-requires c κs = search needs
 
-keep-requires : tie.Need-keep-requires
-keep-requires c κs = search needs
+append-requires : tie.Need-append-requires
+append-requires c κs = search needs
 
 empty-requires : tie.Need-empty-requires
 empty-requires c κs = search needs
@@ -29,7 +29,7 @@ returns c =
     let p = pendingIn (b .args .axis .now) in
     let k = more-due p (b .args .kind) (b .args .value) (b .pre .0) (b .pre .1) in
     rw (sym (t .before .field-ok .ensures) ∙ t .if1 .taken)
-    (kept-word _ _ false (kept p (b .args .kind) (b .args .value)) (subst (λ (q : Pending). Pends (b .args .axis .now) q (c .keep .last .0)) k (c .keep .ensures)))
+    (kept-word _ _ false (kept p (b .args .kind) (b .args .value)) (subst (λ (q : Pending). Pends (b .args .axis .now) q (c .append .last .0)) k (c .append .ensures)))
 
 returns-2 : tie.Need-returns-2
 unfolding fieldOf
@@ -38,4 +38,4 @@ returns-2 c =
     rw (sym (t .before .field-ok .ensures) ∙ t .if1 .left) (refused-word _ _ false OutOfRange (c .empty .ensures))
 
 pub store-spec : {M : Type 1} → statement M
-store-spec = tie.close (tie.spec field-ok-requires keep-requires empty-requires returns returns-2)
+store-spec = tie.close (tie.spec field-ok-requires append-requires empty-requires returns returns-2)

@@ -1,7 +1,7 @@
 -- `cells::put_motion` meets its contract.
 -- Assumes nothing.
 use Rattle.cells.specs.Writes.{motionWords}
-use Rattle.cells.proofs.Laws.{Fit, moved}
+use Rattle.cells.proofs.Laws.{Fit, remembered}
 use borrow.Author.Needs.{needs}
 use Rattle.cells.proofs.put_motion.Statement.{statement}
 use Rattle.cells.proofs.put_motion.Tie as tie
@@ -24,7 +24,7 @@ unfolding motionWords
 returns c =
     let w = c .before .before in
     let b = w .before .before .before in
-    rw (c .put-words .ensures, w .motion-words .ensures) (moved (b .args .axis .now) (w .before .lent .ensures) (b .args .m) (fit b))
+    rw (c .put-words .ensures, w .motion-words .ensures) (remembered (b .args .axis .now) (w .before .lent .ensures) (b .args .m) (fit b))
 
 pub put-motion-spec : {M : Type 1} → statement M
 put-motion-spec =

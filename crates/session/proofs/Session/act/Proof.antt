@@ -52,7 +52,7 @@ same-length c = search needs
 returns-2 : tie.Need-returns-2
 returns-2 c =
     let e = c .before .before .before .before .before .before .enum-told2 .given .1 in
-    (rw e (ap (withAxis (meant (c .before .before .before .before .before .before .before .before .before .args .t1))) (c .before .before .before .before .fresh .ensures)), printed-as (rw e) (c .before .before .fresh2 .ensures))
+    (rw e (ap (withAxis (meant (c .before .before .before .before .before .before .before .before .before .args .t1))) (c .before .before .before .before .fresh .ensures .axis)), printed-as (rw e) (c .before .before .fresh2 .ensures))
 
 same-length-2 : tie.Need-same-length-2
 same-length-2 c = search needs

@@ -1,4 +1,4 @@
--- `axis::running::tick` meets its contract.
+-- `axis::under::tick` meets its contract.
 -- Assumes nothing.
 use mathlib.Core.Path.{_≡_, ap, ap₂, _∙_}
 use Rattle.commands.specs.declared.Demand.{Demand}
@@ -10,8 +10,8 @@ use Rattle.answers.specs.Answer.{answerIn, answeredIn}
 use Rattle.rules.specs.Axis.{Axis}
 use Rattle.cells.specs.Cells.{settingsIn, motionIn, axisIn}
 use borrow.Author.Needs.{needs}
-use Rattle.axis.proofs.running.tick.Statement.{statement}
-use Rattle.axis.proofs.running.tick.Tie as tie
+use Rattle.axis.proofs.under.tick.Statement.{statement}
+use Rattle.axis.proofs.under.tick.Tie as tie
 
 rated-requires : tie.Need-rated-requires
 rated-requires c κs = search needs

@@ -1,4 +1,4 @@
--- `axis::running::speed_in` meets its contract.
+-- `axis::under::speed_in` meets its contract.
 -- Assumes nothing.
 use mathlib.Core.Path.{sym, _∙_}
 use Rattle.homing.specs.Phase.{phaseOf}
@@ -6,8 +6,8 @@ use Rattle.patterns.proofs.Numbers.{read32}
 use Rattle.cells.specs.Cells.{settingsIn}
 use Rattle.axis.proofs.Branches.{at-rest}
 use borrow.Author.Needs.{needs}
-use Rattle.axis.proofs.running.speed_in.Statement.{statement}
-use Rattle.axis.proofs.running.speed_in.Tie as tie
+use Rattle.axis.proofs.under.speed_in.Statement.{statement}
+use Rattle.axis.proofs.under.speed_in.Tie as tie
 
 is-running-requires : tie.Need-is-running-requires
 is-running-requires c κs = search needs

@@ -1,4 +1,4 @@
--- `axis::running::motion_after` meets its contract.
+-- `axis::under::motion_after` meets its contract.
 -- Assumes nothing.
 use mathlib.Core.Path.{ap₂, _∙_}
 use Rattle.states.specs.declared.State.{State}
@@ -8,8 +8,8 @@ use Rattle.ticks.proofs.Assembly.{assembled}
 use Rattle.patterns.proofs.Numbers.{read32}
 use Rattle.cells.specs.Cells.{settingsIn, motionIn}
 use borrow.Author.Needs.{needs}
-use Rattle.axis.proofs.running.motion_after.Statement.{statement}
-use Rattle.axis.proofs.running.motion_after.Tie as tie
+use Rattle.axis.proofs.under.motion_after.Statement.{statement}
+use Rattle.axis.proofs.under.motion_after.Tie as tie
 
 mode-requires : tie.Need-mode-requires
 mode-requires c κs = search needs

@@ -1,4 +1,4 @@
--- `axis::running::phase_after` meets its contract.
+-- `axis::under::phase_after` meets its contract.
 -- Assumes nothing.
 use Prim.Native.Nat.{ℕ}
 use mathlib.Core.Path.{sym, ap, ap₂, _∙_}
@@ -12,8 +12,8 @@ use Rattle.patterns.proofs.Numbers.{read32}
 use Rattle.cells.specs.Cells.{settingsIn, motionIn}
 use Rattle.axis.proofs.Branches.{starts, steps, off, stops}
 use borrow.Author.Needs.{needs}
-use Rattle.axis.proofs.running.phase_after.Statement.{statement}
-use Rattle.axis.proofs.running.phase_after.Tie as tie
+use Rattle.axis.proofs.under.phase_after.Statement.{statement}
+use Rattle.axis.proofs.under.phase_after.Tie as tie
 
 phase-requires : tie.Need-phase-requires
 phase-requires c κs = search needs

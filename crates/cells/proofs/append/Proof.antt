@@ -1,12 +1,12 @@
--- `cells::keep` meets its contract.
+-- `cells::append` meets its contract.
 -- Assumes nothing.
 use mathlib.Core.Path.{refl}
 use borrow.Author.Tests.{lt-ltb, le-ltb}
 use Rattle.patterns.specs.Patterns.{wordAt}
 use Rattle.cells.proofs.Laws.{stored-value, unchanged}
 use borrow.Author.Needs.{needs}
-use Rattle.cells.proofs.keep.Statement.{statement}
-use Rattle.cells.proofs.keep.Tie as tie
+use Rattle.cells.proofs.append.Statement.{statement}
+use Rattle.cells.proofs.append.Tie as tie
 
 lent-requires : tie.Need-lent-requires
 lent-requires c κs = search needs
@@ -41,8 +41,8 @@ returns c =
 returns-2 : tie.Need-returns-2
 returns-2 c = rw (le-ltb _ 14 (c .if1 .left)) unchanged
 
-pub keep-spec : {M : Type 1} → statement M
-keep-spec =
+pub append-spec : {M : Type 1} → statement M
+append-spec =
     tie.close
     (tie.spec
     lent-requires

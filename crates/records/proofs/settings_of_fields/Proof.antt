@@ -1,4 +1,4 @@
--- `records::settings_in` meets its contract.
+-- `records::settings_of_fields` meets its contract.
 -- Assumes nothing.
 use Prim.Native.Nat.{ℕ}
 use mathlib.Core.Path.{_≡_, _∙_}
@@ -6,10 +6,10 @@ use mathlib.Core.List.{List}
 use lib.IntN.{ℤ}
 use Rattle.settings.specs.declared.Settings.{Settings}
 use Rattle.patterns.specs.Patterns.{wordAt}
-use Rattle.records.specs.Words.{signedAt, settingsIn}
+use Rattle.records.specs.Words.{signedAt, settingsOfFields}
 use Rattle.patterns.proofs.Numbers.{read32}
-use Rattle.records.proofs.settings_in.Statement.{statement}
-use Rattle.records.proofs.settings_in.Tie as tie
+use Rattle.records.proofs.settings_of_fields.Statement.{statement}
+use Rattle.records.proofs.settings_of_fields.Tie as tie
 
 word-requires : tie.Need-word-requires
 word-requires c κs = tt
@@ -59,8 +59,8 @@ word-requires-12 c κs = tt
 -- its fields decide it
 built : (f : List ℕ) {a b c e g j k l m n o p : ℕ} {d h i : ℤ}
     → a ≡ wordAt f 0 → b ≡ wordAt f 1 → c ≡ wordAt f 2 → d ≡ signedAt f 3 → e ≡ wordAt f 4 → g ≡ wordAt f 5 → h ≡ signedAt f 6 → i ≡ signedAt f 7 → j ≡ wordAt f 8 → k ≡ wordAt f 9 → l ≡ wordAt f 10 → m ≡ wordAt f 11 → n ≡ wordAt f 12 → o ≡ wordAt f 13 → p ≡ wordAt f 14
-    → _≡_ {A = Settings} (record { method = a; fast = b; slow = c; offset = d; numerator = e; denominator = g; lower = h; upper = i; maximum = j; positive1 = k; negative1 = l; positive2 = m; negative2 = n; option = o; rated = p }) (settingsIn f)
-unfolding settingsIn
+    → _≡_ {A = Settings} (record { method = a; fast = b; slow = c; offset = d; numerator = e; denominator = g; lower = h; upper = i; maximum = j; positive1 = k; negative1 = l; positive2 = m; negative2 = n; option = o; rated = p }) (settingsOfFields f)
+unfolding settingsOfFields
 built f a b c d e g h i j k l m n o p = rw (a, b, c, d, e, g, h, i, j, k, l, m, n, o, p)
 
 returns : tie.Need-returns
@@ -88,8 +88,8 @@ returns c =
     (c .before .word11 .ensures)
     (c .word12 .ensures)
 
-pub settings-in-spec : {M : Type 1} → statement M
-settings-in-spec =
+pub settings-of-fields-spec : {M : Type 1} → statement M
+settings-of-fields-spec =
     tie.close
     (tie.spec
     word-requires

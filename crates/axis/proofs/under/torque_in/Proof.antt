@@ -1,11 +1,11 @@
--- `axis::running::torque_in` meets its contract.
+-- `axis::under::torque_in` meets its contract.
 -- Assumes nothing.
 use mathlib.Core.Path.{_∙_}
 use Rattle.torque.specs.Torque.{torqueOf}
 use Rattle.patterns.proofs.Numbers.{read32}
 use borrow.Author.Needs.{needs}
-use Rattle.axis.proofs.running.torque_in.Statement.{statement}
-use Rattle.axis.proofs.running.torque_in.Tie as tie
+use Rattle.axis.proofs.under.torque_in.Statement.{statement}
+use Rattle.axis.proofs.under.torque_in.Tie as tie
 
 settings-in-requires : tie.Need-settings-in-requires
 settings-in-requires c κs = search needs

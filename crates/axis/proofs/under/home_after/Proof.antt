@@ -1,12 +1,12 @@
--- `axis::running::home_after` meets its contract.
+-- `axis::under::home_after` meets its contract.
 -- Assumes nothing.
 use Prim.Native.Nat.{ℕ}
 use mathlib.Core.Path.{ap, _∙_}
 use Rattle.control.specs.Control.{rises}
 use Rattle.patterns.proofs.Numbers.{read32}
 use borrow.Author.Needs.{needs}
-use Rattle.axis.proofs.running.home_after.Statement.{statement}
-use Rattle.axis.proofs.running.home_after.Tie as tie
+use Rattle.axis.proofs.under.home_after.Statement.{statement}
+use Rattle.axis.proofs.under.home_after.Tie as tie
 
 control-requires : tie.Need-control-requires
 control-requires c κs = search needs

@@ -1,4 +1,4 @@
--- `axis::running::place_in` meets its contract.
+-- `axis::under::place_in` meets its contract.
 -- Assumes nothing.
 use mathlib.Core.Path.{sym, _∙_}
 use mir.Facts.{toZ-ofZ}
@@ -6,8 +6,8 @@ use Rattle.patterns.proofs.Numbers.{read32}
 use Rattle.cells.specs.Cells.{settingsIn}
 use Rattle.axis.proofs.Branches.{unfollowed}
 use borrow.Author.Needs.{needs}
-use Rattle.axis.proofs.running.place_in.Statement.{statement}
-use Rattle.axis.proofs.running.place_in.Tie as tie
+use Rattle.axis.proofs.under.place_in.Statement.{statement}
+use Rattle.axis.proofs.under.place_in.Tie as tie
 
 following-requires : tie.Need-following-requires
 following-requires c κs = search needs

@@ -1,4 +1,4 @@
--- `axis::running::answer` meets its contract.
+-- `axis::under::answer` meets its contract.
 -- Assumes nothing.
 use mathlib.Core.Path.{_∙_}
 use Rattle.patterns.proofs.Numbers.{read32}
@@ -6,8 +6,8 @@ use Rattle.cells.specs.Cells.{settingsIn, motionIn}
 use Rattle.cells.specs.Writes.{motionOf}
 use Rattle.axis.proofs.Branches.{answered}
 use borrow.Author.Needs.{needs}
-use Rattle.axis.proofs.running.answer.Statement.{statement}
-use Rattle.axis.proofs.running.answer.Tie as tie
+use Rattle.axis.proofs.under.answer.Statement.{statement}
+use Rattle.axis.proofs.under.answer.Tie as tie
 
 mode-requires : tie.Need-mode-requires
 mode-requires c κs = search needs
