@@ -96,3 +96,48 @@ pub fn rows() -> [Row; NAMES.len()] {
         row(&homed, ticks([Tick { alarm: 1 << 20, ..STILL }])),
     ]
 }
+
+/// Rated torques under which hybrid commands storm: the least, S's, the greatest.
+pub const STORMS: [u32; 3] = [1, 2000, 1 << 24];
+
+/// Patterns at which single floats change their kind; the sign is drawn beside.
+const EDGES: [u32; 12] = [
+    0x00000000, 0x00000001, 0x007FFFFF, 0x00800000, 0x3F800000, 0x4B800000, 0x4F000000, 0x7F000000, 0x7F7FFFFF, 0x7F800000, 0x7F800001,
+    0x7FFFFFFF,
+];
+
+/// A hybrid command whose floats are ordinary but for some, more in one and fewer in another, which are edges, any pattern at all, or the float
+/// before with its sign turned, which cancels. The numbers are drawn by xorshift.
+fn storm_command(seed: &mut u32) -> Command {
+    let mut draw = || {
+        *seed ^= *seed << 13;
+        *seed ^= *seed >> 17;
+        *seed ^= *seed << 5;
+        *seed
+    };
+    let wild = draw() % 8;
+    let mut f = [0.0f32; 7];
+    for i in 0..7 {
+        let sign = draw() & 1 << 31;
+        f[i] = f32::from_bits(match if draw() % 8 < wild { draw() % 3 } else { 3 } {
+            0 => sign | EDGES[draw() as usize % EDGES.len()],
+            1 => draw(),
+            2 => f[i.saturating_sub(1)].to_bits() ^ 1 << 31,
+            _ => sign | (117 + draw() % 16) << 23 | draw() >> 9,
+        });
+    }
+    Command::Hybrid(Gains { kp: f[0], kd: f[1], pd: f[2], vd: f[3], t: f[4], p: f[5], v: f[6] })
+}
+
+/// Hybrid ticks under S with another rated torque: one of the storm, then five tame ones, which end a fault and enable again.
+pub fn storm(rated: u32) -> Row {
+    let mut sheet = SHEET;
+    let sum = sheet[14] - (sheet[13] & 0x0FFF_FFFF) + rated;
+    sheet[13] = 0xD000_0000 | rated;
+    sheet[14] = 0xF000_0000 | sum & 0x0FFF_FFFF;
+    let tame = Command::Hybrid(Gains { kp: 2.0, kd: 0.1, pd: 0.5, vd: 0.0, t: 0.1, p: 0.3, v: 0.2 });
+    let enabling = [0x00, 0x80, SHUTDOWN, ENABLE, ENABLE].map(|control| Tick { control, command: tame, ..STILL });
+    let mut seed = 402;
+    let turn = |_| [&[Tick { command: storm_command(&mut seed), ..STILL }], &enabling[..]].concat();
+    Row { before: then(&words(&sheet), &ticks(enabling)), counted: ticks((0..1000).flat_map(turn)) }
+}

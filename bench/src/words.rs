@@ -1,6 +1,6 @@
 //! Events and answers as plain words, and the baseline's calls over them: the layout of `c/axis.h`, for both sides.
 
-use crate::baseline::{self, Answer, Axis, Command, Gains, Settings, Tick};
+use crate::baseline::{self, Answer, Axis, Command, Gains, Limits, Settings, Tick};
 
 /// An event is seven words and seven floats, an answer seven words.
 pub const WIDTH: usize = 7;
@@ -97,4 +97,34 @@ pub extern "C" fn baseline_tick(axis: &mut Axis, event: &[u32; WIDTH], floats: &
 #[inline(never)]
 pub unsafe extern "C" fn baseline_write(settings: &Settings, buffer: *mut u32, length: usize) -> u32 {
     baseline::write_sheet(settings, std::slice::from_raw_parts_mut(buffer, length)) as u32
+}
+
+/// Fifteen fields as the baseline's settings. One beyond its width becomes the greatest of that width, which is out of range as well.
+pub fn settings(f: &[u32; 15]) -> Settings {
+    let byte = |field: u32| field.min(u8::MAX.into()) as u8;
+    let half = |field: u32| field.min(u16::MAX.into()) as u16;
+    let limits = |positive, negative| Limits { positive: half(positive), negative: half(negative) };
+    Settings {
+        fast: f[1],
+        slow: f[2],
+        offset: f[3] as i32,
+        numerator: f[4],
+        denominator: f[5],
+        lower: f[6] as i32,
+        upper: f[7] as i32,
+        rated: f[14],
+        maximum: half(f[8]),
+        limits: [limits(f[9], f[10]), limits(f[11], f[12])],
+        method: byte(f[0]),
+        option: byte(f[13]),
+    }
+}
+
+/// `baseline_write` for a caller in C, which has fields and no struct.
+///
+/// # Safety
+/// That of `baseline_write`.
+#[no_mangle]
+pub unsafe extern "C" fn baseline_sheet(fields: &[u32; 15], buffer: *mut u32, length: usize) -> u32 {
+    baseline_write(&settings(fields), buffer, length)
 }

@@ -4,10 +4,10 @@
 use std::hint::black_box;
 use std::io;
 
-use bench::baseline::{Axis, Limits, Settings};
+use bench::baseline::Axis;
 use bench::lines::tick;
 use bench::rows::{rows, then, Row, FIELDS, SHEET};
-use bench::words::{baseline_fresh, baseline_tick, baseline_word, baseline_write, event, Event, AXIS_WORDS, WIDTH};
+use bench::words::{baseline_fresh, baseline_tick, baseline_word, baseline_write, event, settings, Event, AXIS_WORDS, WIDTH};
 
 // As c/axis.h has them.
 #[link(name = "exports", kind = "static")]
@@ -74,27 +74,9 @@ macro_rules! callers {
 
 callers!(row0 row1 row2 row3 row4 row5 row6 row7 row8 row9 row10 row11 row12 row13 row14 row15 row16);
 
-fn settings() -> Settings {
-    let f = FIELDS;
-    Settings {
-        fast: f[1],
-        slow: f[2],
-        offset: f[3] as i32,
-        numerator: f[4],
-        denominator: f[5],
-        lower: f[6] as i32,
-        upper: f[7] as i32,
-        rated: f[14],
-        maximum: f[8] as u16,
-        limits: [Limits { positive: f[9] as u16, negative: f[10] as u16 }, Limits { positive: f[11] as u16, negative: f[12] as u16 }],
-        method: f[0] as u8,
-        option: f[13] as u8,
-    }
-}
-
 #[inline(never)]
 fn write_both() {
-    let s = settings();
+    let s = settings(&FIELDS);
     let mut proved = [LENT; 20];
     let mut plain = proved;
     let numbers = unsafe {

@@ -8,14 +8,12 @@ use Rattle.settings.specs.Refusal.{numberOf}
 use Rattle.states.specs.States.{liveOf}
 use Rattle.modes.specs.Modes.{modeNumber}
 use Rattle.commands.specs.Commands.{wholeDemand}
-use Rattle.homing.specs.Phase.{homedIn, runningIn, failedIn}
 use Rattle.torque.specs.Torque.{torqueOf}
 use Rattle.position.specs.declared.Followed.{Followed}
 use Rattle.position.specs.declared.Followed.the-variants.{Target, Nothing}
 use Rattle.position.specs.Position.{positionOf, clampedOf}
 use Rattle.speed.specs.Speed.{speedOf}
-use Rattle.status.specs.declared.Flags.{Flags}
-use Rattle.status.specs.Statusword.{limitedOf, statuswordOf}
+use Rattle.status.specs.Statusword.{Flags, flagsIn, limitedOf, statuswordOf}
 use Rattle.ticks.specs.declared.Tick.{Tick}
 use Rattle.ticks.specs.Motion.{Motion}
 use Rattle.ticks.specs.Moment.{Moment, momentOf}
@@ -30,14 +28,7 @@ isFollowing (Target target) = true
 isFollowing Nothing = false
 
 abbrev pub flagsOf : Settings → Moment → Flags
-flagsOf s m =
-    record {
-      homed = homedIn (m .motion .phase);
-      running = runningIn (m .motion .phase);
-      failed = failedIn (m .motion .phase);
-      following = isFollowing (m .followed);
-      limited = limitedOf (m .view .now) (clampedOf s (m .followed));
-    }
+flagsOf s m = flagsIn (m .motion .phase) (isFollowing (m .followed)) (limitedOf (m .view .now) (clampedOf s (m .followed)))
 
 -- in Operation enabled or Quick stop active with a matched command
 abbrev pub torqueOn : Moment → Bool

@@ -14,16 +14,18 @@ use Rattle.settings.specs.declared.Refusal.the-variants.{DriveActive}
 use Rattle.settings.specs.declared.Verdict.{Verdict}
 use Rattle.settings.specs.declared.Verdict.the-variants.{Accepted, Refused}
 use Rattle.states.specs.States.{liveOf}
+use Rattle.words.specs.Encode.{checksumOf}
 use Rattle.words.specs.Decode.{settingsOf}
 use Rattle.reader.specs.Pending.{Pending, Reading, Complete}
-use Rattle.reader.specs.Read.{dueKind, kept, refused, stored, complete, judged, endVerdict, endOf, readOf}
+use Rattle.reader.specs.Read.{dueKind, kept, refused, stored, complete, judged, closeVerdict, endVerdict, endOf, readOf}
 use Rattle.reader.specs.Cases.{isEnd}
 use Rattle.rules.specs.Axis.{Axis, Worded}
 use Rattle.rules.specs.Word.{taken, wordOf}
 use Rattle.patterns.specs.Patterns.{wordAt}
 use Rattle.cells.specs.Lists.{cellsFrom, valuesFrom}
 use Rattle.cells.specs.Cells.{valueIn, pendingIn, motionIn, axisIn, MotionKept}
-use Rattle.cells.specs.Writes.{Pends, more, Emptied, InputsKept, Activated}
+use Rattle.cells.specs.Writes.{Pends, more, Emptied, InputsKept, valuesIn, Activated}
+use Rattle.cells.proofs.Laws.{cells-past}
 use Rattle.axis.specs.Calls.{Takes, WordCall, readIn, completedIn, Completes}
 
 -- where all of motion is kept, so are its inputs
@@ -68,13 +70,13 @@ refused-word l m ends r c =
     }
 
 -- an end word that completes settings: refused while the drive is live, else they come into force
-pub live-end : (l values : List ℕ) → liveOf (motionIn l .state) ≡ true → Completes l values l (Refused DriveActive)
+pub live-end : (l : List ℕ) → liveOf (motionIn l .state) ≡ true → Completes l l (Refused DriveActive)
 unfolding axisIn
-live-end l values e = record { axis = rw e; verdict = rw e; inputs = record { before = refl; after = refl }; kept = λ n. refl }
+live-end l e = record { axis = rw e; verdict = rw e; inputs = record { before = refl; after = refl }; kept = λ n. refl }
 
-pub activating-end : (l values m : List ℕ) → liveOf (motionIn l .state) ≡ false → Activated l values m → Completes l values m Accepted
+pub activating-end : (l m : List ℕ) → liveOf (motionIn l .state) ≡ false → Activated l m → Completes l m Accepted
 unfolding axisIn
-activating-end l values m e c = record { axis = rw e (c .axis); verdict = rw e; inputs = c .motion; kept = λ n. absurd (n refl) }
+activating-end l m e c = record { axis = rw e (c .axis); verdict = rw e; inputs = c .motion; kept = λ n. absurd (n refl) }
 
 -- once all have come, the values are the words themselves
 values-come : (l : List ℕ) (k n : ℕ) → k + n ≤ pendingIn l .count → valuesFrom k n (valueIn l) ≡ cellsFrom (15 + k) n l
@@ -85,24 +87,27 @@ values-come l k (suc n) h =
     values-come l (suc k) n (omega arith) ∙ ap (λ (i : ℕ). cellsFrom i n l) (omega arith) in
     ap₂ (λ (x : ℕ) (t : List ℕ). x ∷ t) here later
 
-ended : (l values : List ℕ) (sum : ℕ) → 14 ≤ pendingIn l .count → values ≡ cellsFrom 15 14 l
-    → endOf (pendingIn l) sum ≡ judged (settingsOf values) (endVerdict values sum)
-unfolding endOf
-ended l values sum h e = rw (values-come l 0 14 h, e)
+ended : (l : List ℕ) (sum : ℕ) (v : Verdict) → 14 ≤ pendingIn l .count → v ≡ closeVerdict (settingsOf (valuesIn l)) (checksumOf (valuesIn l)) sum
+    → endOf (pendingIn l) sum ≡ judged (settingsOf (valuesIn l)) v
+unfolding endOf endVerdict
+ended l sum v h e = rw (values-come l 0 14 h, e)
 
-pub refused-end : (l values m : List ℕ) (sum : ℕ) (r : Refusal) → 14 ≤ pendingIn l .count → values ≡ cellsFrom 15 14 l
-    → endVerdict values sum ≡ Refused r → Emptied l m → Takes l true (readIn l (endOf (pendingIn l) sum)) m (Refused r)
-refused-end l values m sum r h e v c =
-    let g : endOf (pendingIn l) sum ≡ refused r = ended l values sum h e ∙ ap (judged (settingsOf values)) v in
+pub refused-end : (l m : List ℕ) (sum : ℕ) (v : Verdict) (r : Refusal) → 14 ≤ pendingIn l .count
+    → v ≡ closeVerdict (settingsOf (valuesIn l)) (checksumOf (valuesIn l)) sum → v ≡ Refused r → Emptied l m
+    → Takes l true (readIn l (endOf (pendingIn l) sum)) m (Refused r)
+refused-end l m sum v r h e q c =
+    let g : endOf (pendingIn l) sum ≡ refused r = ended l sum v h e ∙ ap (judged (settingsOf (valuesIn l))) q in
     rw g (refused-word l m true r c)
 
 -- the words are emptied first, then the settings come into force or not
-pub complete-end : (l values m n : List ℕ) (sum : ℕ) (v : Verdict) → 14 ≤ pendingIn l .count → values ≡ cellsFrom 15 14 l
-    → endVerdict values sum ≡ Accepted → Emptied l m → Completes m values n v
+pub complete-end : (l m n : List ℕ) (sum : ℕ) (w v : Verdict) → 14 ≤ pendingIn l .count
+    → w ≡ closeVerdict (settingsOf (valuesIn l)) (checksumOf (valuesIn l)) sum → w ≡ Accepted → Emptied l m → Completes m n v
     → Takes l true (readIn l (endOf (pendingIn l) sum)) n v
-complete-end l values m n sum v h e a c d =
-    let g : endOf (pendingIn l) sum ≡ complete (settingsOf values) = ended l values sum h e ∙ ap (judged (settingsOf values)) a in
-    let x : completedIn m values ≡ readIn l (complete (settingsOf values)) = ap (λ (b : Axis). taken b (Complete (settingsOf values))) (c .pends .axis) in
+complete-end l m n sum w v h e a c d =
+    let s = settingsOf (valuesIn l) in
+    let g : endOf (pendingIn l) sum ≡ complete s = ended l sum w h e ∙ ap (judged s) a in
+    let same : valuesIn m ≡ valuesIn l = ap valuesIn (c .words) ∙ cells-past l 14 0 15 14 (omega arith) in
+    let x : completedIn m ≡ readIn l (complete s) = ap₂ (λ (b : Axis) (u : List ℕ). taken b (Complete (settingsOf u))) (c .pends .axis) same in
     let p = c .pends in
     let i = inputs-kept l m (p .motion) in
     rw g

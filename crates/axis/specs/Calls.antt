@@ -3,22 +3,30 @@
 -- Assumes nothing.
 use Prim.Native.Nat.{ℕ}
 use mathlib.Core.Path.{_≡_}
-use mathlib.Core.Bool.{Bool, true}
+use mathlib.Core.Bool.{Bool, true, _&&_}
 use mathlib.Core.List.{List}
+use lib.IntN.{ℤ}
 use Rattle.settings.specs.declared.Refusal.{Refusal}
 use Rattle.settings.specs.declared.Verdict.{Verdict}
 use Rattle.settings.specs.declared.Verdict.the-variants.{Accepted, Refused}
 use Rattle.words.specs.Decode.{settingsOf}
 use Rattle.reader.specs.Pending.{Reading, Complete}
 use Rattle.reader.specs.Cases.{isEnd}
+use Rattle.states.specs.declared.State.{State}
+use Rattle.modes.specs.declared.Mode.{Mode}
+use Rattle.control.specs.Control.{rises}
+use Rattle.homing.specs.Phase.{Phase, homedIn}
 use Rattle.ticks.specs.declared.Tick.{Tick}
+use Rattle.ticks.specs.Motion.{Motion}
+use Rattle.ticks.specs.Rules.{viewWith}
+use Rattle.ticks.specs.Moment.{phaseAfter, homeAfter, motionWith}
 use Rattle.answers.specs.declared.Answer.{Answer}
 use Rattle.answers.specs.Answer.{answeredIn}
 use Rattle.rules.specs.Axis.{Nothing, Worded}
 use Rattle.rules.specs.Word.{withPending, taken, wordOf}
 use Rattle.rules.specs.Tick.{tickOf, gone}
 use Rattle.cells.specs.Cells.{settingsIn, activeIn, motionIn, axisIn, SettingsKept, FrontKept, MotionKept}
-use Rattle.cells.specs.Writes.{Cleared, emptied, InputsKept}
+use Rattle.cells.specs.Writes.{Cleared, emptied, InputsKept, valuesIn}
 
 -- a fresh axis; its words are zeros
 abbrev pub FreshCall : List ℕ → Type 0
@@ -52,15 +60,30 @@ pub record TickCall (l : List ℕ) (t : Tick) (m : List ℕ) (a : Answer) : Type
 abbrev pub readIn : List ℕ → Reading → Worded
 readIn l g = taken (withPending (axisIn l) (g .pending)) (g .outcome)
 
--- an end word that completes the settings of these values; what is pending has been emptied before
-abbrev pub completedIn : List ℕ → List ℕ → Worded
-completedIn l values = taken (axisIn l) (Complete (settingsOf values))
+-- an end word that completes the settings of the values; what is pending has been emptied before, which leaves the values
+abbrev pub completedIn : List ℕ → Worded
+completedIn l = taken (axisIn l) (Complete (settingsOf (valuesIn l)))
 
-pub record Completes (l values m : List ℕ) (v : Verdict) : Type 0 where
-  pub axis : axisIn m ≡ completedIn l values .axis
-  pub verdict : v ≡ completedIn l values .verdict
+pub record Completes (l m : List ℕ) (v : Verdict) : Type 0 where
+  pub axis : axisIn m ≡ completedIn l .axis
+  pub verdict : v ≡ completedIn l .verdict
   pub inputs : InputsKept l m
   pub kept : (v ≡ Accepted → ⊥) → m ≡ l
+
+-- homing and home after a tick; on: homing is matched and the drive in Operation enabled
+abbrev pub phaseIn : List ℕ → Tick → Bool → Phase
+phaseIn l t on =
+    let a = motionIn l in
+    phaseAfter (a .phase) (settingsIn l .method) (rises (a .control) (t .control) 4 && on) (viewWith (a .switches) (a .position) t on)
+
+abbrev pub homeIn : List ℕ → Tick → Bool → Phase → ℤ
+homeIn l t on phase =
+    let a = motionIn l in
+    homeAfter (a .home) (rises (a .control) (t .control) 4 && on) (homedIn (a .phase)) (homedIn phase) (t .position)
+
+-- the motion that a tick leaves with drive state, mode and alarm number
+abbrev pub settledIn : List ℕ → Tick → Bool → State → Mode → ℕ → Motion
+settledIn l t on state mode alarm = motionWith t state mode alarm (phaseIn l t on) (homeIn l t on (phaseIn l t on))
 
 -- a tick under the settings of words 0 to 13
 pub record Runs (l : List ℕ) (t : Tick) (m : List ℕ) (a : Answer) : Type 0 where

@@ -49,14 +49,14 @@ fn store(axis: &mut Lent, kind: u32, value: u32) -> Verdict
 }
 
 // Complete settings come into force (01: takeover), unless the drive is live.
-fn complete(axis: &mut Lent, values: [u32; 14]) -> Verdict
-    ensures { λ r. ⌜ Completes (now (axis .entry)) values (now (axis .exit)) r ⌝ }
+fn complete(axis: &mut Lent) -> Verdict
+    ensures { λ r. ⌜ Completes (now (axis .entry)) (now (axis .exit)) r ⌝ }
 {
     let state = cells::state(axis);
     if states::is_live(state) {
         Verdict::Refused(Refusal::DriveActive)
     } else {
-        cells::activate(axis, values);
+        cells::activate(axis);
         Verdict::Accepted
     }
 }
@@ -66,11 +66,10 @@ fn finish(axis: &mut Lent, sum: u32) -> Verdict
     requires { ⌜ 14 ≤ pendingIn (now axis) .count ⌝ }
     ensures { λ r. ⌜ Takes (now (axis .entry)) true (readIn (now (axis .entry)) (endOf (pendingIn (now (axis .entry))) sum)) (now (axis .exit)) r ⌝ }
 {
-    let values = cells::values(axis);
-    let verdict = reader::close(values, sum);
+    let verdict = reader::close(cells::pending_settings(axis), cells::checksum(axis), sum);
     cells::empty(axis);
     match verdict {
-        Verdict::Accepted => complete(axis, values),
+        Verdict::Accepted => complete(axis),
         Verdict::Refused(refusal) => Verdict::Refused(refusal),
     }
 }

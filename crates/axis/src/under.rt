@@ -1,54 +1,64 @@
-// A tick under settings. Settings and motion are read where they are used.
+// A tick under settings. Settings and motion are read where they are used; the tick's switches, as bits, and the mode that its command
+// wants are worked out once.
 use answers::Answer;
 use cells::Lent;
 use cells::Motion;
 use commands::Demand;
+use legs::events;
+use legs::events::Seen;
+use modes::Mode;
 use position::Followed;
-use status::Flags;
+use states::State;
 use ticks::Tick;
 use torque::LimitSet;
 ghost use mathlib.Core.Path.{_≡_};
-ghost use mathlib.Core.Bool.{_&&_};
-ghost use Rattle.control.specs.Control.{rises};
-ghost use Rattle.commands.specs.Commands.{wholeDemand};
-ghost use Rattle.homing.specs.Phase.{phaseOf, homedIn};
+ghost use mathlib.Core.Bool.{true, false};
+ghost use Rattle.commands.specs.Commands.{modeOf, wholeDemand};
+ghost use Rattle.legs.specs.Events.{viewOf, switchesIn};
+ghost use Rattle.homing.specs.Phase.{phaseOf};
 ghost use Rattle.torque.specs.Torque.{torqueOf};
 ghost use Rattle.speed.specs.Speed.{speedOf};
 ghost use Rattle.position.specs.Position.{positionOf, clampedOf};
 ghost use Rattle.ticks.specs.Rules.{alarmIn, viewWith};
-ghost use Rattle.ticks.specs.Moment.{phaseAfter, homeAfter, motionAfter, momentAt};
+ghost use Rattle.ticks.specs.Moment.{motionAfter, momentAt};
 ghost use Rattle.answers.specs.Answer.{answerIn};
+ghost use Rattle.patterns.specs.Patterns.{switchBits};
 ghost use Rattle.cells.specs.Cells.{settingsIn, motionIn};
 ghost use Rattle.cells.specs.Writes.{motionOf};
-ghost use Rattle.axis.specs.Calls.{Runs};
+ghost use Rattle.axis.specs.Calls.{phaseIn, homeIn, settledIn, Runs};
 
-// Homing after the tick; on: homing is matched and the drive in Operation enabled.
-fn phase_after(axis: &Lent, t: Tick, on: bool) -> u32
-    ensures { λ r. ⌜ phaseOf r ≡ phaseAfter (motionIn (now (axis .entry)) .phase) (settingsIn (now (axis .entry)) .method) (rises (motionIn (now (axis .entry)) .control) (t .control) 4 && on) (viewWith (motionIn (now (axis .entry)) .switches) (motionIn (now (axis .entry)) .position) t on) ⌝ }
+// What homing sees of the tick.
+fn seen(axis: &Lent, t: Tick, switches: u32) -> Seen
+    requires { ⌜ switches ≡ switchBits (t .switches) ⌝ }
+    ensures { λ r. ⌜ viewOf r ≡ viewWith (motionIn (now (axis .entry)) .switches) (motionIn (now (axis .entry)) .position) t true ⌝ }
 {
-    let phase = cells::phase(axis);
-    let method = cells::method(axis);
-    if on {
-        if control::rising(cells::control(axis), t.control, 4) {
-            let now = t.switches;
-            homing::start(method, now.home)
-        } else {
-            let before = cells::switches(axis);
-            homing::step(
-                phase,
-                method,
-                ticks::view(before, cells::position(axis), t, on),
-            )
-        }
-    } else {
-        homing::stop(phase, method)
+    let movement = counts::moved(t.position, cells::position(axis));
+    Seen {
+        kept: counts::bit(t.control, 4),
+        halted: counts::bit(t.control, 8),
+        movement,
+        before: cells::switches(axis),
+        now: switches,
     }
 }
 
-fn home_after(axis: &Lent, t: Tick, on: bool, phase: u32) -> i32
-    ensures { λ r. ⌜ r ≡ homeAfter (motionIn (now (axis .entry)) .home) (rises (motionIn (now (axis .entry)) .control) (t .control) 4 && on) (homedIn (motionIn (now (axis .entry)) .phase)) (homedIn (phaseOf phase)) (t .position) ⌝ }
+// Homing after a tick in which it is matched and the drive in Operation enabled.
+fn phase_after(axis: &Lent, t: Tick, switches: u32) -> u32
+    requires { ⌜ switches ≡ switchBits (t .switches) ⌝ }
+    ensures { λ r. ⌜ phaseOf r ≡ phaseIn (now (axis .entry)) t true ⌝ }
 {
-    let starting = control::rising(cells::control(axis), t.control, 4) & on;
+    let method = cells::method(axis);
+    if control::rising(cells::control(axis), t.control, 4) {
+        homing::start(method, events::home_on(switches))
+    } else {
+        homing::step(cells::phase(axis), method, seen(axis, t, switches))
+    }
+}
+
+fn home_after(axis: &Lent, t: Tick, phase: u32) -> i32
+    ensures { λ r. ⌜ r ≡ homeIn (now (axis .entry)) t true (phaseOf phase) ⌝ }
+{
+    let starting = control::rising(cells::control(axis), t.control, 4);
     let before = homing::is_homed(cells::phase(axis));
     ticks::home_after(
         cells::home(axis),
@@ -59,14 +69,56 @@ fn home_after(axis: &Lent, t: Tick, on: bool, phase: u32) -> i32
     )
 }
 
+// What a tick leaves in which homing is on.
+fn in_homing(axis: &Lent, t: Tick, switches: u32, state: State, mode: Mode, alarm: u32) -> Motion
+    requires { ⌜ switches ≡ switchBits (t .switches) ⌝ }
+    ensures { λ r. ⌜ motionOf r ≡ settledIn (now (axis .entry)) t true state mode alarm ⌝ }
+{
+    let phase = phase_after(axis, t, switches);
+    let home = home_after(axis, t, phase);
+    Motion {
+        state,
+        mode,
+        control: t.control,
+        switches,
+        alarm,
+        phase,
+        home,
+        position: t.position,
+    }
+}
+
+// What any other tick leaves: homing stops, and home stays.
+fn out_of_homing(
+    axis: &Lent,
+    t: Tick,
+    switches: u32,
+    state: State,
+    mode: Mode,
+    alarm: u32,
+) -> Motion
+    requires { ⌜ switches ≡ switchBits (t .switches) ⌝ }
+    ensures { λ r. ⌜ motionOf r ≡ settledIn (now (axis .entry)) t false state mode alarm ⌝ }
+{
+    Motion {
+        state,
+        mode,
+        control: t.control,
+        switches,
+        alarm,
+        phase: homing::stop(cells::phase(axis), cells::method(axis)),
+        home: cells::home(axis),
+        position: t.position,
+    }
+}
+
 // What the tick leaves; alarm has what its command adds to the alarm word.
-fn motion_after(axis: &Lent, t: Tick, alarm: u32) -> Motion
-    requires { ⌜ alarm ≡ alarmIn (settingsIn (now axis)) t ⌝ }
+fn motion_after(axis: &Lent, t: Tick, switches: u32, wanted: Mode, alarm: u32) -> Motion
+    requires switches { ⌜ switches ≡ switchBits (t .switches) ⌝ }
+    requires wanted { ⌜ wanted ≡ modeOf (t .command) ⌝ }
+    requires alarm { ⌜ alarm ≡ alarmIn (settingsIn (now axis)) t ⌝ }
     ensures { λ r. ⌜ motionOf r ≡ motionAfter (settingsIn (now (axis .entry))) (motionIn (now (axis .entry))) t ⌝ }
 {
-    let command = t.command;
-    let switches = t.switches;
-    let wanted = commands::mode(command);
     let before = cells::state(axis);
     let shown = cells::mode(axis);
     let mode = modes::shown(wanted, shown, before, t.still);
@@ -78,19 +130,11 @@ fn motion_after(axis: &Lent, t: Tick, alarm: u32) -> Motion
         cells::option(axis),
         alarm,
     );
-    let on = ticks::homing_on(wanted, mode, state);
-    let phase = phase_after(axis, t, on);
-    let home = home_after(axis, t, on, phase);
     let number = states::latched(cells::alarm(axis), before, state, alarm);
-    Motion {
-        state,
-        mode,
-        control: t.control,
-        switches,
-        alarm: number,
-        phase,
-        home,
-        position: t.position,
+    if ticks::homing_on(wanted, mode, state) {
+        in_homing(axis, t, switches, state, mode, number)
+    } else {
+        out_of_homing(axis, t, switches, state, mode, number)
     }
 }
 
@@ -139,33 +183,27 @@ fn place_in(axis: &Lent, home: i32, followed: Followed, actual: i32) -> Place
 }
 
 // What the tick hands out, by the motion that it leaves.
-fn answer(axis: &Lent, t: Tick, m: Motion, demand: Demand) -> Answer
+fn answer(axis: &Lent, t: Tick, wanted: Mode, m: Motion, demand: Demand) -> Answer
+    requires switches { ⌜ switchesIn (m .switches) ≡ t .switches ⌝ }
+    requires wanted { ⌜ wanted ≡ modeOf (t .command) ⌝ }
     ensures { λ r. ⌜ r ≡ answerIn (settingsIn (now (axis .entry))) t (momentAt (motionIn (now (axis .entry))) t (motionOf m) demand) ⌝ }
 {
     let command = t.command;
     let set = t.set;
-    let now = t.switches;
     let mode = m.mode;
     let state = m.state;
-    let wanted = commands::mode(command);
     let matched = modes::is_matched(wanted, mode);
-    let homed = homing::is_homed(m.phase);
-    let followed = ticks::command_target(command, matched, state, homed);
+    let followed = ticks::command_target(command, matched, state, homing::is_homed(m.phase));
     let place = place_in(axis, m.home, followed, t.position);
-    let flags = Flags {
-        homed,
-        running: homing::is_running(m.phase),
-        failed: homing::has_failed(m.phase),
-        following: answers::following(followed),
-        limited: status::limited(now, place.clamped),
-    };
+    let following = answers::following(followed);
+    let limited = status::limited(m.switches, place.clamped);
     Answer {
         number: 0,
         torque: torque_in(axis, set, states::is_live(state) & matched, demand),
         speed: speed_in(axis, m.phase, counts::bit(t.control, 8)),
         position: place.position,
-        status: status::statusword(state, mode, flags),
         mode: modes::number(mode),
+        status: status::statusword(state, mode, m.phase, following, limited),
         alarm: m.alarm,
     }
 }
@@ -175,9 +213,12 @@ pub fn tick(axis: &mut Lent, t: Tick) -> Answer
     ensures { λ r. ⌜ Runs (now (axis .entry)) t (now (axis .exit)) r ⌝ }
 {
     let command = t.command;
+    let switches = t.switches;
+    let bits = patterns::switch_bits(switches);
     let demand = commands::torque_demand(command, cells::rated(axis));
-    let m = motion_after(axis, t, commands::alarms(demand, t.alarm));
-    let a = answer(axis, t, m, demand);
+    let wanted = commands::mode(command);
+    let m = motion_after(axis, t, bits, wanted, commands::alarms(demand, t.alarm));
+    let a = answer(axis, t, wanted, m, demand);
     cells::put_motion(axis, m);
     a
 }

@@ -18,7 +18,8 @@ use Rattle.reader.specs.Pending.{Pending}
 use Rattle.homing.specs.Phase.{phaseOf}
 use Rattle.ticks.specs.Motion.{Motion}
 use Rattle.rules.specs.Axis.{Active, Nothing, Set, Axis, freshAxis}
-use Rattle.patterns.specs.Patterns.{wordAt, switchesIn, stateOf, modeOf}
+use Rattle.legs.specs.Events.{switchesIn}
+use Rattle.patterns.specs.Patterns.{wordAt, stateOf, modeOf}
 use Rattle.cells.specs.Lists.{cellsFrom, valuesFrom}
 
 -- the settings that words 0 to 13 carry
@@ -44,7 +45,7 @@ motionIn l =
       phase = phaseOf (wordAt l 32);
       home = wrapped (pos (wordAt l 33));
       control = wordAt l 34 % 2 ^ 16;
-      switches = switchesIn (wordAt l 35 % 2 ^ 16);
+      switches = switchesIn (wordAt l 35);
       position = wrapped (pos (wordAt l 36));
     }
 

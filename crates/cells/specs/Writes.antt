@@ -1,6 +1,6 @@
 -- What each write leaves: l are the words before it, m those after it. The words that are not its to write are kept as they are.
 -- Assumes nothing.
-use Prim.Native.Nat.{ℕ}
+use Prim.Native.Nat.{ℕ, zero, suc, _+_}
 use mathlib.Core.Path.{_≡_}
 use mathlib.Core.Bool.{cond}
 use mathlib.Core.List.{List, [], _∷_}
@@ -16,7 +16,9 @@ use Rattle.homing.specs.Phase.{phaseOf}
 use Rattle.ticks.specs.Motion.{Motion, idled}
 use Rattle.rules.specs.Axis.{Set, freshAxis}
 use Rattle.rules.specs.Word.{withPending}
-use Rattle.patterns.specs.Patterns.{switchBits}
+use Rattle.legs.specs.Events.{switchesIn}
+use Rattle.patterns.specs.Patterns.{wordAt}
+use Rattle.cells.specs.Lists.{cellsFrom}
 use Rattle.cells.specs.Cells.{pendingIn, motionIn, axisIn, SettingsKept, PendingKept, FrontKept, MotionKept}
 use Rattle.cells.specs.declared.Motion as stored
 
@@ -53,8 +55,18 @@ pub record InputsKept (l m : List ℕ) : Type 0 where
   pub before : take 3 (drop 29 m) ≡ take 3 (drop 29 l)
   pub after : drop 33 m ≡ drop 33 l
 
-pub record Activated (l values m : List ℕ) : Type 0 where
-  pub axis : axisIn m ≡ record { active = Set (settingsOf values); pending = pendingIn l; motion = idled (motionIn l) }
+-- the data of fourteen settings words, as far as they have come
+abbrev pub valuesIn : List ℕ → List ℕ
+valuesIn l = cellsFrom 15 14 l
+
+-- words 1 to k are the values of the same kinds
+abbrev pub copied : ℕ → List ℕ → List ℕ
+copied zero l = l
+copied (suc k) l = set (copied k l) (suc k) (wordAt l (16 + k))
+
+-- the settings of these values come into force
+pub record Activated (l m : List ℕ) : Type 0 where
+  pub axis : axisIn m ≡ record { active = Set (settingsOf (valuesIn l)); pending = pendingIn l; motion = idled (motionIn l) }
   pub pending : PendingKept l m
   pub motion : InputsKept l m
 
@@ -68,7 +80,7 @@ motionOf s =
       phase = phaseOf (s .phase);
       home = s .home;
       control = s .control;
-      switches = s .switches;
+      switches = switchesIn (s .switches);
       position = s .position;
     }
 
@@ -80,7 +92,7 @@ motionWords s =
     ∷ s .phase
     ∷ modulo 32 (s .home)
     ∷ s .control
-    ∷ switchBits (s .switches)
+    ∷ s .switches
     ∷ modulo 32 (s .position)
     ∷ []
 

@@ -1,20 +1,22 @@
 // The axis in words that the caller lends: what each word is, and every read and write of them.
-use legs::events::Switches;
 use modes::Mode;
 use settings::Settings;
 use states::State;
+use words::KIND;
 use words::decoder;
 ghost use mathlib.Core.Path.{_≡_};
 ghost use mathlib.Core.Bool.{not};
-ghost use mathlib.Core.List.{_∷_};
 ghost use lib.Dec.{eqb};
 ghost use lib.ListN.{length};
 ghost use lib.Seq.{sets};
 ghost use Rattle.homing.specs.Phase.{phaseOf};
+ghost use Rattle.words.specs.Decode.{settingsOf};
+ghost use Rattle.words.specs.Encode.{checksumOf};
+ghost use Rattle.legs.specs.Events.{switchesIn};
 ghost use Rattle.patterns.specs.Patterns.{wordAt};
 ghost use Rattle.cells.specs.Lists.{cellsFrom, cells};
 ghost use Rattle.cells.specs.Cells.{settingsIn, pendingIn, motionIn};
-ghost use Rattle.cells.specs.Writes.{Cleared, Emptied, Begun, Appended, Activated, motionWords, Remembered};
+ghost use Rattle.cells.specs.Writes.{Cleared, Emptied, Begun, Appended, valuesIn, copied, Activated, motionWords, Remembered};
 
 // The lent words: the settings in force, what is pending, motion. Words 0 to 13 are the data of the settings words that came into force;
 // the first, the start word's, is 0 where none did.
@@ -54,7 +56,8 @@ pub struct Motion {
     // Modes of operation display (01: shown mode).
     pub mode: Mode,
     pub control: u16,
-    pub switches: Switches,
+    // POT, NOT, HOM, Z, from bit 0 on.
+    pub switches: u32,
     // Latched alarm number.
     pub alarm: u32,
     // Where homing stands (`homing::IDLE` and the others).
@@ -130,9 +133,8 @@ pub fn count(axis: &Lent) -> u32
     axis[COUNT]
 }
 
-// The data of fourteen settings words, as far as they have come.
-pub fn values(axis: &Lent) -> [u32; 14]
-    ensures { λ r. ⌜ r ≡ cellsFrom 15 14 (now (axis .entry)) ⌝ }
+fn values(axis: &Lent) -> [u32; 14]
+    ensures { λ r. ⌜ r ≡ valuesIn (now (axis .entry)) ⌝ }
 {
     [
         axis[VALUES],
@@ -150,6 +152,25 @@ pub fn values(axis: &Lent) -> [u32; 14]
         axis[27],
         axis[28],
     ]
+}
+
+// The settings of the values that are pending.
+pub fn pending_settings(axis: &Lent) -> Settings
+    ensures { λ r. ⌜ r ≡ settingsOf (valuesIn (now (axis .entry))) ⌝ }
+{
+    let values = values(axis);
+    decoder::decode(values)
+}
+
+// Their sum, modulo 2^28.
+pub fn checksum(axis: &Lent) -> u32
+    ensures { λ r. ⌜ r ≡ checksumOf (valuesIn (now (axis .entry))) ⌝ }
+{
+    let mut total: u32 = 0;
+    for i in 0..14 {
+        total = std::num::wrapping_add_u32(total, axis[VALUES + i]);
+    }
+    total % KIND
 }
 
 pub fn state(axis: &Lent) -> State
@@ -188,10 +209,11 @@ pub fn control(axis: &Lent) -> u16
     (axis[CONTROL] % 0x10000) as u16
 }
 
-pub fn switches(axis: &Lent) -> Switches
-    ensures { λ r. ⌜ r ≡ motionIn (now (axis .entry)) .switches ⌝ }
+// The remembered switches, as bits.
+pub fn switches(axis: &Lent) -> u32
+    ensures { λ r. ⌜ switchesIn r ≡ motionIn (now (axis .entry)) .switches ⌝ }
 {
-    patterns::switches((axis[SWITCHES] % 0x10000) as u16)
+    axis[SWITCHES]
 }
 
 pub fn position(axis: &Lent) -> i32
@@ -237,31 +259,21 @@ pub fn append(axis: &mut Lent, value: u32)
     }
 }
 
-fn put_values(axis: &mut Lent, v: [u32; 14])
-    ensures { λ _. ⌜ now (axis .exit) ≡ sets (now (axis .entry)) 0 (1 ∷ cellsFrom 1 13 v) ⌝ }
+fn copy_values(axis: &mut Lent)
+    ensures { λ _. ⌜ now (axis .exit) ≡ copied 13 (now (axis .entry)) ⌝ }
 {
-    axis[0] = 1;
-    axis[1] = v[1];
-    axis[2] = v[2];
-    axis[3] = v[3];
-    axis[4] = v[4];
-    axis[5] = v[5];
-    axis[6] = v[6];
-    axis[7] = v[7];
-    axis[8] = v[8];
-    axis[9] = v[9];
-    axis[10] = v[10];
-    axis[11] = v[11];
-    axis[12] = v[12];
-    axis[13] = v[13];
+    for i in 1..14 {
+        axis[i] = axis[VALUES + i];
+    }
 }
 
-// The settings of these values come into force, and homing is idle (01: takeover).
-pub fn activate(axis: &mut Lent, values: [u32; 14])
-    ensures { λ _. ⌜ Activated (now (axis .entry)) values (now (axis .exit)) ⌝ }
+// The settings of the values that are pending come into force, and homing is idle (01: takeover).
+pub fn activate(axis: &mut Lent)
+    ensures { λ _. ⌜ Activated (now (axis .entry)) (now (axis .exit)) ⌝ }
 {
     lent(*axis);
-    put_values(axis, values);
+    copy_values(axis);
+    axis[0] = 1;
     axis[PHASE] = homing::IDLE;
 }
 
@@ -270,7 +282,6 @@ fn motion_words(m: Motion) -> [u32; 8]
 {
     let state = m.state;
     let mode = m.mode;
-    let switches = m.switches;
     let home = patterns::pattern(m.home);
     let position = patterns::pattern(m.position);
     [
@@ -280,7 +291,7 @@ fn motion_words(m: Motion) -> [u32; 8]
         m.phase,
         home,
         m.control as u32,
-        patterns::switch_bits(switches),
+        m.switches,
         position,
     ]
 }

@@ -5,7 +5,7 @@ use mathlib.Core.Bool.{Bool, true, false, cond}
 use mathlib.Core.List.{List, [], _∷_, _++_}
 use Prim.Native.Nat.{ℕ}
 use Rattle.settings.specs.declared.Settings.{Settings}
-use Rattle.legs.specs.declared.events.View.{View}
+use Rattle.legs.specs.Events.{View}
 use Rattle.homing.specs.Phase.{Phase, Idle}
 use Rattle.homing.specs.Places.{startOf, stepOf, stepAll}
 use Rattle.roundtrip.specs.Stream.{pendingAfter}

@@ -12,8 +12,7 @@ use Rattle.states.specs.States.{liveOf}
 use Rattle.modes.specs.declared.Mode.{Mode}
 use Rattle.modes.specs.declared.Mode.the-variants.{None}
 use Rattle.legs.specs.declared.events.Switches.{Switches}
-use Rattle.legs.specs.declared.events.View.{View}
-use Rattle.legs.specs.Events.{allOff}
+use Rattle.legs.specs.Events.{View, allOff}
 use Rattle.legs.specs.Routes.{planOf}
 use Rattle.homing.specs.Complete.{CompletesPlan}
 use Rattle.rules.specs.Axis.{Active, Nothing, Set}

@@ -3,7 +3,8 @@ use control::ControlCommand;
 use states::State;
 ghost use mathlib.Core.Path.{_≡_};
 ghost use mathlib.Core.Bool.{cond};
-ghost use Rattle.drive.specs.Transitions.{fromState, bullets, standstillOf, quickStopOf, quietOf, settled, nextOf};
+ghost use Rattle.drive.specs.Transitions.{asks, fromState, bullets, standstillOf, quickStopOf, quietOf, nextOf};
+ghost use Rattle.control.specs.Control.{controlCommandOf};
 
 fn from_disabled(command: ControlCommand) -> State
     ensures { λ r. ⌜ r ≡ fromState State.SwitchOnDisabled command bullets ⌝ }
@@ -86,29 +87,45 @@ fn quiet(state: State, command: ControlCommand, still: bool, option: u32) -> Sta
     }
 }
 
-// An alarm goes first, but not in the fault states; Fault is left by a rise of bit 7 without alarm.
-fn settle(state: State, alarm: bool, reset: bool, quiet: State) -> State
-    ensures { λ r. ⌜ r ≡ settled state alarm reset quiet ⌝ }
+// Whether a control word asks to enable: bits 0 to 3 set, bit 7 clear.
+fn enables(control: u16) -> bool
+    ensures { λ r. ⌜ r ≡ asks (controlCommandOf control) ControlCommand.EnableOperation ⌝ }
 {
+    (control / 128 % 2 == 0) & (control % 16 == 15)
+}
+
+// `quiet` of a control word. Most ticks are enabled and asked to enable: tested first, they need no command.
+fn calm(state: State, control: u16, still: bool, option: u32) -> State
+    ensures { λ r. ⌜ r ≡ quietOf state (controlCommandOf control) still option ⌝ }
+{
+    if states::in_state(state, State::OperationEnabled) & enables(control) {
+        State::OperationEnabled
+    } else {
+        quiet(state, control::control_command(control), still, option)
+    }
+}
+
+// The state after a tick: control is its control word, before the remembered one; alarm has what the command adds to it.
+// An alarm goes first, but not in the fault states; Fault is left by a rise of bit 7 without alarm.
+pub fn next(state: State, control: u16, before: u16, still: bool, option: u32, alarm: u32) -> State
+    ensures { λ r. ⌜ r ≡ nextOf state control before still option alarm ⌝ }
+{
+    let clear = alarm == 0;
     match state {
         State::FaultReaction => State::Fault,
         State::Fault => {
-            if reset & !alarm {
+            if control::rising(before, control, 7) & clear {
                 State::SwitchOnDisabled
             } else {
                 State::Fault
             }
         }
-        _ => { if alarm { State::FaultReaction } else { quiet } }
+        _ => {
+            if clear {
+                calm(state, control, still, option)
+            } else {
+                State::FaultReaction
+            }
+        }
     }
-}
-
-// The state after a tick: control is its control word, before the remembered one; alarm has what the command adds to it.
-pub fn next(state: State, control: u16, before: u16, still: bool, option: u32, alarm: u32) -> State
-    ensures { λ r. ⌜ r ≡ nextOf state control before still option alarm ⌝ }
-{
-    let reset = control::rising(before, control, 7);
-    let command = control::control_command(control);
-    let calm = quiet(state, command, still, option);
-    settle(state, alarm != 0, reset, calm)
 }

@@ -1,5 +1,6 @@
 // The axis and the writer for programs in C: the calls of `c/axis.h`, whose words `crates/records` reads and writes.
 use cells::Lent;
+use settings::Refusal;
 ghost use mathlib.Core.Path.{_≡_};
 ghost use Rattle.settings.specs.Refusal.{verdictNumber};
 ghost use Rattle.writer.specs.Write.{writeVerdict, written};
@@ -22,7 +23,7 @@ pub extern "C" fn axis_word(axis: &mut Lent, word: u32) -> u32
     settings::verdict_number(axis::word(axis, word))
 }
 
-// One tick. Returns the answer's number: 0, or the refusal's.
+// One tick. Returns the answer's number: 0, or the refusal's. Without settings the event is not read.
 #[no_mangle]
 pub extern "C" fn axis_tick(
     axis: &mut Lent,
@@ -32,9 +33,15 @@ pub extern "C" fn axis_tick(
 ) -> u32
     ensures { λ r. ⌜ TickCall (now (axis .entry)) (now (event .entry)) (now (floats .entry)) (now (axis .exit)) (now (answer .exit)) r ⌝ }
 {
-    let a = axis::tick(axis, records::tick(event, floats));
-    *answer = records::answer_words(a);
-    a.number
+    if cells::is_active(axis) {
+        let a = axis::tick(axis, records::tick(event, floats));
+        records::put_answer(answer, a);
+        a.number
+    } else {
+        let refused = answers::refused(Refusal::NoSettings);
+        records::put_answer(answer, refused);
+        refused.number
+    }
 }
 
 // The writer: settings as fifteen words to the front of the buffer. Returns 0, or the refusal's number.

@@ -1,1 +1,3 @@
 pub mod Guards
+pub mod Product
+pub mod Reach

@@ -1,19 +1,18 @@
 -- What each arm of the code comes to: the definitions' tests, settled.
 -- Assumes nothing.
 use mathlib.Core.Path.{_≡_, refl, _∙_}
-use mathlib.Core.Bool.{Bool, true, false, cond}
+use mathlib.Core.Bool.{Bool, true, false, not, cond}
 use mathlib.Core.Option.{Option, none, some}
 use Prim.Native.Nat.{ℕ, _+_}
 use native.Mathlib.Omega.{arith}
 use borrow.Author.Tests.{eq-eqb, ne-eqb}
-use Rattle.legs.specs.declared.events.View.{View}
-use Rattle.legs.specs.declared.Leg.{Leg}
-use Rattle.legs.specs.declared.Found.the-variants as found
-use Rattle.legs.specs.Events.{eventCounts, limitCounts}
+use Rattle.legs.specs.Found.{Found, isLeg}
+use Rattle.legs.specs.Found as found
+use Rattle.legs.specs.Events.{View, foundCounts, foundLimitCounts}
 use Rattle.legs.specs.Routes.{Row, rowOf}
 use Rattle.legs.specs.Places.{legAt}
-use Rattle.homing.specs.Phase.{Idle, Running, Failed}
-use Rattle.homing.specs.Places.{entered, limitAt, runningOf, startIn, startOf}
+use Rattle.homing.specs.Phase.{Phase, Idle, Running, Failed}
+use Rattle.homing.specs.Places.{entered, limitAt, tickIn, runningOf, startIn, startOf}
 use Rattle.legs.proofs.Rows.{between, known, isRow, turn-rule, known-rule, unknown}
 
 module _ (m p : ℕ) where
@@ -30,27 +29,20 @@ module _ (m p : ℕ) where
   unfolding limitAt
   limit-alone h = rw (turn-rule m, h)
 
-  module _ (v : View) where
-    pub run-end : legAt m p ≡ found.Nothing → runningOf m p v ≡ Failed
-    unfolding runningOf
-    run-end e = rw e
+-- a tick at a place, by the code's tests in their order
+abbrev pub tested : Bool → Bool → Bool → Bool → ℕ → ℕ → Phase
+tested leg kept event limit m p =
+    cond (not leg) Failed (cond (not kept) Idle (cond event (entered m (p + 1)) (cond limit (limitAt m p) (Running p))))
 
-    module _ (l : Leg) (e : legAt m p ≡ found.Leg l) where
-      pub run-idle : v .kept ≡ false → runningOf m p v ≡ Idle
-      unfolding runningOf
-      run-idle k = cc
-
-      pub run-event : v .kept ≡ true → eventCounts l v ≡ true → runningOf m p v ≡ entered m (p + 1)
-      unfolding runningOf
-      run-event k c = cc
-
-      pub run-limit : v .kept ≡ true → eventCounts l v ≡ false → limitCounts l v ≡ true → runningOf m p v ≡ limitAt m p
-      unfolding runningOf
-      run-limit k c b = cc
-
-      pub run-stays : v .kept ≡ true → eventCounts l v ≡ false → limitCounts l v ≡ false → runningOf m p v ≡ Running p
-      unfolding runningOf
-      run-stays k c b = cc
+pub run-tests : (m p : ℕ) (v : View)
+    → runningOf m p v ≡ tested (isLeg (legAt m p)) (v .kept) (foundCounts (legAt m p) v) (foundLimitCounts (legAt m p) v) m p
+unfolding runningOf
+run-tests m p v = go (legAt m p) (v .kept) refl
+  where
+    go : (f : Found) (k : Bool) → v .kept ≡ k → tickIn m p v f ≡ tested (isLeg f) (v .kept) (foundCounts f v) (foundLimitCounts f v) m p
+    go found.Nothing k e = refl
+    go (found.Leg l) true e = cc
+    go (found.Leg l) false e = cc
 
 pub start-known : (m : ℕ) (home : Bool) → known m ≡ true → startOf m home ≡ entered m (cond home 8 0)
 unfolding startOf

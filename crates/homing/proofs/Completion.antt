@@ -6,9 +6,8 @@ use mathlib.Core.Logic.{_⊎_, inl, inr, _↔_, ⊎-map, ⊎-elim}
 use mathlib.Core.Bool.{Bool, true, false, So, false≢true}
 use mathlib.Core.List.{List, [], _∷_, _++_, nil≢cons, head-eq-of-cons-eq, tail-eq-of-cons-eq}
 use mathlib.Core.Option.{Option, none, some}
-use Rattle.legs.specs.declared.events.View.{View}
-use Rattle.legs.specs.declared.Leg.{Leg}
-use Rattle.legs.specs.Events.{eventCounts, limitCounts}
+use Rattle.legs.specs.Legs.{Leg}
+use Rattle.legs.specs.Events.{View, eventCounts, limitCounts}
 use Rattle.legs.specs.Routes.{Plan}
 use Rattle.homing.specs.Complete.{All, Cut, Waits, Ends, Turns, Completes, CompletesAfterTurn, CompletesTurn, CompletesRoute}
 use Rattle.homing.specs.Progress.{Progress, idle, failed, homed, running, begin, onLimit, advance, advanceAll, begun, isHomed}

@@ -8,8 +8,7 @@ use lib.IntN.{pos, _-ℤ_}
 use Rattle.counts.specs.Wrap.{modulo, signed, wrapped}
 use Rattle.counts.specs.Movement.{movementOf}
 use Rattle.legs.specs.declared.events.Switches.{Switches}
-use Rattle.legs.specs.declared.events.View.{View}
-use Rattle.legs.specs.Events.{allOff, eventCounts, limitCounts}
+use Rattle.legs.specs.Events.{View, allOff, eventCounts, limitCounts}
 use Rattle.legs.specs.Routes.{rowOf, planOf}
 use Rattle.homing.specs.Complete.{CompletesPlan}
 use Rattle.legs.specs.Places.{legAt}

@@ -10,10 +10,9 @@ use Prim.Native.Nat.{ℕ, _+_, _<_}
 use native.Mathlib.Omega.{arith}
 use lib.ListN.{length, getD}
 use borrow.Author.Tests.{ne-eqb}
-use Rattle.legs.specs.declared.events.View.{View}
-use Rattle.legs.specs.declared.Leg.{Leg}
-use Rattle.legs.specs.declared.Found.the-variants as found
-use Rattle.legs.specs.Events.{eventCounts, limitCounts}
+use Rattle.legs.specs.Legs.{Leg}
+use Rattle.legs.specs.Found as found
+use Rattle.legs.specs.Events.{View, eventCounts, limitCounts}
 use Rattle.legs.specs.Routes.{Row, rowOf, Plan, later, planFrom, planOf}
 use Rattle.homing.specs.Complete.{CompletesPlan}
 use Rattle.homing.specs.Progress.{Progress, idle, failed, homed, running, begin, onLimit, advance, advanceAll, started, isHomed}

@@ -3,9 +3,9 @@
 use mathlib.Core.Path.{_≡_, refl}
 use mathlib.Core.Bool.{false}
 use Prim.Native.Nat.{ℕ}
-use Rattle.legs.specs.declared.events.View.{View}
-use Rattle.legs.specs.declared.Found.{Found}
-use Rattle.legs.specs.declared.Found.the-variants as found
+use Rattle.legs.specs.Events.{View}
+use Rattle.legs.specs.Found.{Found}
+use Rattle.legs.specs.Found as found
 use Rattle.legs.specs.Places.{legAt}
 use Rattle.homing.specs.Phase.{Phase, Idle, Running, Homed, Failed}
 use Rattle.homing.specs.Places.{tickIn, runningOf, stepOf, stoppedAt, stoppedOf}

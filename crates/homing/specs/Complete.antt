@@ -5,9 +5,8 @@ use mathlib.Core.Logic.{_⊎_}
 use mathlib.Core.Bool.{false, So}
 use mathlib.Core.List.{List, [], _∷_, _++_}
 use mathlib.Core.Option.{Option, none, some}
-use Rattle.legs.specs.declared.events.View.{View}
-use Rattle.legs.specs.declared.Leg.{Leg}
-use Rattle.legs.specs.Events.{eventCounts, limitCounts}
+use Rattle.legs.specs.Legs.{Leg}
+use Rattle.legs.specs.Events.{View, eventCounts, limitCounts}
 use Rattle.legs.specs.Routes.{Plan}
 
 abbrev pub All : (View → Type 0) → List View → Type 0

@@ -5,11 +5,10 @@ use mathlib.Core.Bool.{Bool, cond, _&&_}
 use mathlib.Core.List.{List, [], _∷_}
 use mathlib.Core.Option.{Option, none, some}
 use lib.Dec.{eqb}
-use Rattle.legs.specs.declared.events.View.{View}
-use Rattle.legs.specs.declared.Leg.{Leg}
-use Rattle.legs.specs.declared.Found.{Found}
-use Rattle.legs.specs.declared.Found.the-variants as found
-use Rattle.legs.specs.Events.{eventCounts, limitCounts}
+use Rattle.legs.specs.Legs.{Leg}
+use Rattle.legs.specs.Found.{Found}
+use Rattle.legs.specs.Found as found
+use Rattle.legs.specs.Events.{View, eventCounts, limitCounts}
 use Rattle.legs.specs.Routes.{Row, rowOf}
 use Rattle.legs.specs.Places.{turnPlace, homePlace, legAt, hasTurn}
 use Rattle.homing.specs.Phase.{Phase, Idle, Running, Homed, Failed}

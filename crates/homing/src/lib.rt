@@ -1,8 +1,8 @@
 // Homing (01: "Homing routes"): where it stands after a tick.
-use legs::Found;
 use legs::events;
-use legs::events::View;
+use legs::events::Seen;
 ghost use mathlib.Core.Path.{_≡_};
+ghost use Rattle.legs.specs.Events.{viewOf};
 ghost use Rattle.homing.specs.Phase.{phaseOf, homedIn, runningIn, failedIn};
 ghost use Rattle.homing.specs.Places.{entered, limitAt, runningOf, startOf, stepOf, stoppedOf};
 
@@ -19,10 +19,11 @@ pub const RUNNING: u32 = 3;
 fn enter(method: u32, place: u32) -> u32
     ensures { λ r. ⌜ phaseOf r ≡ entered method place ⌝ }
 {
-    let found = legs::leg_at(method, place);
-    match found {
-        Found::Leg(_) => RUNNING + place,
-        Found::Nothing => HOMED,
+    let leg = legs::leg_at(method, place);
+    if legs::is_leg(leg) {
+        RUNNING + place
+    } else {
+        HOMED
     }
 }
 
@@ -43,26 +44,23 @@ fn at_limit(method: u32, place: u32) -> u32
 }
 
 // One tick in a leg.
-fn run(method: u32, place: u32, view: View) -> u32
-    ensures { λ r. ⌜ phaseOf r ≡ runningOf method place view ⌝ }
+fn run(method: u32, place: u32, seen: Seen) -> u32
+    ensures { λ r. ⌜ phaseOf r ≡ runningOf method place (viewOf seen) ⌝ }
 {
-    let found = legs::leg_at(method, place);
-    match found {
-        Found::Nothing => FAILED,
-        Found::Leg(leg) => {
-            if view.kept {
-                if events::event_counts(leg, view) {
-                    return enter(method, place + 1);
-                }
-                if events::limit_counts(leg, view) {
-                    at_limit(method, place)
-                } else {
-                    RUNNING + place
-                }
-            } else {
-                IDLE
-            }
-        }
+    let leg = legs::leg_at(method, place);
+    if !legs::is_leg(leg) {
+        return FAILED;
+    }
+    if !seen.kept {
+        return IDLE;
+    }
+    if events::event_counts(leg, seen) {
+        return enter(method, place + 1);
+    }
+    if events::limit_counts(leg, seen) {
+        at_limit(method, place)
+    } else {
+        RUNNING + place
     }
 }
 
@@ -83,13 +81,13 @@ pub fn start(method: u32, home: bool) -> u32
 }
 
 // Homing after a later tick.
-pub fn step(phase: u32, method: u32, view: View) -> u32
-    ensures { λ r. ⌜ phaseOf r ≡ stepOf (phaseOf phase) method view ⌝ }
+pub fn step(phase: u32, method: u32, seen: Seen) -> u32
+    ensures { λ r. ⌜ phaseOf r ≡ stepOf (phaseOf phase) method (viewOf seen) ⌝ }
 {
     if phase < RUNNING {
         phase
     } else {
-        run(method, phase - RUNNING, view)
+        run(method, phase - RUNNING, seen)
     }
 }
 
@@ -100,11 +98,8 @@ pub fn stop(phase: u32, method: u32) -> u32
     if phase < RUNNING {
         return phase;
     }
-    let found = legs::leg_at(method, phase - RUNNING);
-    match found {
-        Found::Leg(_) => IDLE,
-        Found::Nothing => FAILED,
-    }
+    let leg = legs::leg_at(method, phase - RUNNING);
+    if legs::is_leg(leg) { IDLE } else { FAILED }
 }
 
 pub fn is_homed(phase: u32) -> bool

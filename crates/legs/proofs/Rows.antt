@@ -9,7 +9,7 @@ use native.Mathlib.Omega.{arith}
 use lib.Dec.{T, eqb, leb, ltb, ltb→lt}
 use lib.ListN.{length}
 use borrow.Author.Tests.{ltb-true, ltb-false, le-leb, lt-leb, ne-eqb}
-use Rattle.legs.specs.declared.Leg.{Leg}
+use Rattle.legs.specs.Legs.{Leg}
 use Rattle.legs.specs.Routes.{Row, Entry, table, lookup, rowOf}
 use Rattle.legs.specs.Places.{rest, hasTurn}
 use Rattle.legs.proofs.Computed.{listed, agree}

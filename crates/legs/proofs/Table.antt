@@ -2,16 +2,15 @@
 -- the whole table, and the law of `Computed`.
 -- Assumes nothing.
 use mathlib.Core.Path.{_≡_, refl}
-use mathlib.Core.Bool.{Bool, true, false}
+use mathlib.Core.Bool.{Bool, true, false, false≢true}
 use mathlib.Core.Option.{Option, none, some}
 use Prim.Native.Nat.{ℕ, _+_, _-_, _*_, _/_, _%_, _^_, _≤_, _<_}
 use native.Mathlib.Omega.{arith}
 use lib.Dec.{ltb}
 use lib.ListN.{List·getD-eq-default}
 use borrow.Author.Tests.{ltb-true, ltb-false}
-use Rattle.legs.specs.declared.Leg.{Leg}
-use Rattle.legs.specs.declared.Found.{Found}
-use Rattle.legs.specs.declared.Found.the-variants as found
+use Rattle.legs.specs.Found.{Found, isLeg}
+use Rattle.legs.specs.Found as found
 use Rattle.legs.specs.Routes.{Row, rowOf}
 use Rattle.legs.specs.Places.{placesOf, legIn, legAt}
 use Rattle.legs.specs.Digits.{rowDigits, legInDigit}
@@ -28,16 +27,12 @@ past m p h = go (rowOf m)
     go (some r) = List·getD-eq-default (placesOf r) found.Nothing h
 
 -- a leg stands at a place below 12
-pub placed : (m p : ℕ) (l : Leg) → legAt m p ≡ found.Leg l → p < 12
-placed m p l e = go (ltb p 12) refl
+pub placed : (m p : ℕ) → isLeg (legAt m p) ≡ true → p < 12
+placed m p e = go (ltb p 12) refl
   where
     go : (b : Bool) → ltb p 12 ≡ b → p < 12
     go true t = ltb-true p 12 t
-    go false t = let q = past m p (ltb-false p 12 t) in let z : _≡_ {A = ℕ} 0 1 = cc in absurd (omega arith)
-
-pub no-leg : (m p : ℕ) → known m ≡ false → legAt m p ≡ found.Nothing
-unfolding legAt
-no-leg m p k = rw (unknown m k)
+    go false t = absurd (false≢true (rw (past m p (ltb-false p 12 t)) at e))
 
 -- the leg that the code picks out of its table
 abbrev pub picked : ℕ → ℕ → Found

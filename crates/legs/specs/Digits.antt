@@ -1,17 +1,14 @@
--- How the code's table holds a method's row, one hexadecimal digit a leg in the order of the places: contracts of the code's own helpers.
--- What is promised of a leg is `legAt`.
+-- A leg as a hexadecimal digit, and how the code's table holds a method's row: a digit for each place, in their order. The leg that is
+-- promised is `legAt`.
 -- Assumes nothing.
 use Prim.Native.Nat.{ℕ, _+_, _*_, _/_, _%_}
 use mathlib.Core.Bool.{Bool, true, false, cond}
 use mathlib.Core.List.{List, [], _∷_}
 use mathlib.Core.Option.{Option, none, some}
 use lib.Dec.{eqb}
-use Rattle.legs.specs.declared.Switch.{Switch}
-use Rattle.legs.specs.declared.Switch.the-variants.{Home, Index, LimitAhead}
-use Rattle.legs.specs.declared.Edge.{Edge}
-use Rattle.legs.specs.declared.Edge.the-variants.{Rise, Drop}
-use Rattle.legs.specs.declared.Found.{Found}
-use Rattle.legs.specs.declared.Found.the-variants as found
+use Rattle.legs.specs.Legs.{Switch, Home, Index, LimitAhead, Edge, Rise, Drop}
+use Rattle.legs.specs.Found.{Found}
+use Rattle.legs.specs.Found as found
 use Rattle.legs.specs.Routes.{Event, R, D, Z, legOf, Row, rowOf}
 use Rattle.legs.specs.Places.{placesOf}
 
@@ -42,9 +39,15 @@ digitsIn (some r) = digits 0 (placesOf r)
 unfoldable pub rowDigits : ℕ → ℕ
 rowDigits m = digitsIn (rowOf m)
 
--- and back: the leg in a digit
+-- and back: a digit's direction, its speed, and its leg
+abbrev pub forwardIn : ℕ → Bool
+forwardIn digit = eqb (digit / 4 % 2) 1
+
+abbrev pub fastIn : ℕ → Bool
+fastIn digit = eqb (digit / 8 % 2) 1
+
 abbrev pub legWith : ℕ → Event → Found
-legWith digit e = found.Leg (legOf (eqb (digit / 4 % 2) 1) (eqb (digit / 8 % 2) 1) e)
+legWith digit e = found.Leg (legOf (forwardIn digit) (fastIn digit) e)
 
 unfoldable pub legInDigit : ℕ → Found
 legInDigit digit =

@@ -1,18 +1,36 @@
 -- 01, "Homing routes": when a leg's event counts in a tick, and when a limit does. Both compare the remembered switches with the tick's.
 -- Assumes nothing.
+use Prim.Native.Nat.{ℕ}
 use mathlib.Core.Bool.{Bool, true, false, not, _&&_, _||_}
+use Rattle.counts.specs.Bit.{bitOf}
 use Rattle.counts.specs.declared.Movement.{Movement}
 use Rattle.counts.specs.declared.Movement.the-variants.{Backward, Still, Forward}
 use Rattle.legs.specs.declared.events.Switches.{Switches}
-use Rattle.legs.specs.declared.events.View.{View}
-use Rattle.legs.specs.declared.Leg.{Leg}
-use Rattle.legs.specs.declared.Switch.{Switch}
-use Rattle.legs.specs.declared.Switch.the-variants.{Home, Index, LimitAhead}
-use Rattle.legs.specs.declared.Edge.{Edge}
-use Rattle.legs.specs.declared.Edge.the-variants.{Rise, Drop}
+use Rattle.legs.specs.declared.events.Seen.{Seen}
+use Rattle.legs.specs.Legs.{Switch, Home, Index, LimitAhead, Edge, Rise, Drop, Leg}
+use Rattle.legs.specs.Found.{Found}
+use Rattle.legs.specs.Found as found
 
 abbrev pub allOff : Switches
 allOff = record { positive = false; negative = false; home = false; index = false }
+
+-- four switches as a word's low bits, in the order POT, NOT, HOM, Z
+abbrev pub switchesIn : ℕ → Switches
+switchesIn bits = record { positive = bitOf bits 0; negative = bitOf bits 1; home = bitOf bits 2; index = bitOf bits 3 }
+
+-- what homing sees of one tick after the start. kept: control bit 4 is set, homing is matched and the new state is Operation enabled;
+-- before and now: the remembered switches and this tick's
+pub record View : Type 0 where
+  pub kept : Bool
+  pub halted : Bool
+  pub movement : Movement
+  pub before : Switches
+  pub now : Switches
+
+-- the same, with the switches as the code holds them
+abbrev pub viewOf : Seen → View
+viewOf s =
+    record { kept = s .kept; halted = s .halted; movement = s .movement; before = switchesIn (s .before); now = switchesIn (s .now) }
 
 -- the movement "has the leg's sign"
 abbrev pub along : Bool → Movement → Bool
@@ -46,6 +64,10 @@ edgeSeen l v = edgeOf (l .edge) (switchOf (l .switch) (l .forward) (v .before)) 
 abbrev pub movementFits : Leg → View → Bool
 movementFits l v = not (l .moving) || along (l .forward) (v .movement)
 
+-- the limit ahead rises
+abbrev pub limitRises : Bool → View → Bool
+limitRises forward v = rises (limitAhead forward (v .before)) (limitAhead forward (v .now))
+
 -- the leg's event counts: "With bit 8 (halt) set nothing counts. Otherwise R, D and Z count only if [the movement] has the leg's sign."
 unfoldable pub eventCounts : Leg → View → Bool
 eventCounts l v = not (v .halted) && (movementFits l v && edgeSeen l v)
@@ -53,4 +75,18 @@ eventCounts l v = not (v .halted) && (movementFits l v && edgeSeen l v)
 -- "A limit rise in travel direction, with or without movement"; and in a halted tick nothing counts. That the event of the same tick goes
 -- first is said where both are asked (`advance`, `tickIn`).
 unfoldable pub limitCounts : Leg → View → Bool
-limitCounts l v = not (v .halted) && rises (limitAhead (l .forward) (v .before)) (limitAhead (l .forward) (v .now))
+limitCounts l v = not (v .halted) && limitRises (l .forward) v
+
+-- where no leg stands nothing counts
+abbrev pub foundCounts : Found → View → Bool
+foundCounts (found.Leg l) v = eventCounts l v
+foundCounts found.Nothing v = false
+
+abbrev pub foundLimitCounts : Found → View → Bool
+foundLimitCounts (found.Leg l) v = limitCounts l v
+foundLimitCounts found.Nothing v = false
+
+-- and no edge is seen
+abbrev pub foundEdge : Found → View → Bool
+foundEdge (found.Leg l) v = edgeSeen l v
+foundEdge found.Nothing v = false

@@ -1,3 +1,5 @@
+pub mod Legs
+pub mod Found
 pub mod Events
 pub mod Routes
 pub mod Places

@@ -5,9 +5,9 @@ use mathlib.Core.Bool.{Bool, true, false}
 use mathlib.Core.List.{List, [], _∷_, map}
 use mathlib.Core.Option.{Option, none, some}
 use lib.ListN.{getD}
-use Rattle.legs.specs.declared.Leg.{Leg}
-use Rattle.legs.specs.declared.Found.{Found}
-use Rattle.legs.specs.declared.Found.the-variants as found
+use Rattle.legs.specs.Legs.{Leg}
+use Rattle.legs.specs.Found.{Found}
+use Rattle.legs.specs.Found as found
 use Rattle.legs.specs.Routes.{Row, rowOf}
 
 -- the leg at a place of a route, or nothing past its end

@@ -5,11 +5,7 @@ use mathlib.Core.Bool.{Bool, true, false, not, cond}
 use mathlib.Core.List.{List, [], _∷_, map}
 use mathlib.Core.Option.{Option, none, some}
 use lib.Dec.{eqb}
-use Rattle.legs.specs.declared.Leg.{Leg}
-use Rattle.legs.specs.declared.Switch.{Switch}
-use Rattle.legs.specs.declared.Switch.the-variants.{Home, Index, LimitAhead}
-use Rattle.legs.specs.declared.Edge.{Edge}
-use Rattle.legs.specs.declared.Edge.the-variants.{Rise, Drop}
+use Rattle.legs.specs.Legs.{Switch, Home, Index, LimitAhead, Edge, Rise, Drop, Leg}
 
 -- an event: the switch, its edge, and whether it counts only with movement in the leg's direction
 pub record Event : Type 0 where

@@ -1,10 +1,10 @@
 // When a leg's event counts in a tick, and when a limit does.
-use crate::Edge;
-use crate::Leg;
-use crate::Switch;
 use counts::Movement;
 ghost use mathlib.Core.Path.{_≡_};
-ghost use Rattle.legs.specs.Events.{along, edgeOf, switchOf, eventCounts, limitCounts};
+ghost use Prim.Native.Nat.{_<_};
+ghost use Rattle.counts.specs.Bit.{bitOf};
+ghost use Rattle.legs.specs.Digits.{legInDigit};
+ghost use Rattle.legs.specs.Events.{along, rises, limitRises, switchesIn, viewOf, foundEdge, foundCounts, foundLimitCounts};
 
 // The four switches (01: POT, NOT, HOM, Z).
 pub struct Switches {
@@ -14,14 +14,30 @@ pub struct Switches {
     pub index: bool,
 }
 
+// The switches as bits of a word, by their places.
+const POSITIVE: u32 = 0;
+
+const NEGATIVE: u32 = 1;
+
+const HOME: u32 = 2;
+
+const INDEX: u32 = 3;
+
+// Whether HOM is on.
+pub fn home_on(switches: u32) -> bool
+    ensures { λ r. ⌜ r ≡ switchesIn switches .home ⌝ }
+{
+    switches / 4 % 2 == 1
+}
+
 // What homing sees of one tick after the start. kept: control bit 4 is set, homing is matched and the new state is Operation enabled;
-// before and now: the remembered switches and this tick's.
-pub struct View {
+// before and now: the remembered switches and this tick's, as bits.
+pub struct Seen {
     pub kept: bool,
     pub halted: bool,
     pub movement: Movement,
-    pub before: Switches,
-    pub now: Switches,
+    pub before: u32,
+    pub now: u32,
 }
 
 // Whether a movement goes the leg's way.
@@ -35,51 +51,51 @@ fn along_leg(forward: bool, movement: Movement) -> bool
     }
 }
 
-// A switch; the limit ahead is the one in travel direction.
-fn switch_at(switch: Switch, forward: bool, switches: Switches) -> bool
-    ensures { λ r. ⌜ r ≡ switchOf switch forward switches ⌝ }
+// Whether the bit at a place is set now and was not before; with the two words swapped, whether it drops.
+fn risen(before: u32, now: u32, place: u32) -> bool
+    requires { ⌜ place < 32 ⌝ }
+    ensures { λ r. ⌜ r ≡ rises (bitOf before place) (bitOf now place) ⌝ }
 {
-    match switch {
-        Switch::Home => switches.home,
-        Switch::Index => switches.index,
-        Switch::LimitAhead => {
-            if forward {
-                switches.positive
-            } else {
-                switches.negative
-            }
-        }
+    !((before >> place) % 2 == 1) & ((now >> place) % 2 == 1)
+}
+
+// Whether the leg's switch has the leg's edge.
+fn edge_seen(leg: u32, seen: Seen) -> bool
+    ensures { λ r. ⌜ r ≡ foundEdge (legInDigit leg) (viewOf seen) ⌝ }
+{
+    match leg % 4 {
+        1 => risen(seen.before, seen.now, HOME), // R
+        2 => risen(seen.now, seen.before, HOME), // D
+        3 => risen(seen.before, seen.now, INDEX), // Z
+        _ => false,
     }
 }
 
-// Whether a switch has the edge, compared with the remembered one.
-fn edge_seen(switch: Switch, edge: Edge, forward: bool, view: View) -> bool
-    ensures { λ r. ⌜ r ≡ edgeOf edge (switchOf switch forward (view .before)) (switchOf switch forward (view .now)) ⌝ }
+// Whether the limit in travel direction rises.
+fn limit_risen(forward: bool, seen: Seen) -> bool
+    ensures { λ r. ⌜ r ≡ limitRises forward (viewOf seen) ⌝ }
 {
-    let was = switch_at(switch, forward, view.before);
-    let is = switch_at(switch, forward, view.now);
-    match edge {
-        Edge::Rise => !was & is,
-        Edge::Drop => !is & was,
+    if forward {
+        risen(seen.before, seen.now, POSITIVE)
+    } else {
+        risen(seen.before, seen.now, NEGATIVE)
     }
 }
 
 // Whether the leg's event counts.
-pub fn event_counts(leg: Leg, view: View) -> bool
-    ensures { λ r. ⌜ r ≡ eventCounts leg view ⌝ }
+pub fn event_counts(leg: u32, seen: Seen) -> bool
+    ensures { λ r. ⌜ r ≡ foundCounts (legInDigit leg) (viewOf seen) ⌝ }
 {
-    let switch = leg.switch;
-    let edge = leg.edge;
-    let movement = view.movement;
-    let seen = edge_seen(switch, edge, leg.forward, view);
-    let moved = along_leg(leg.forward, movement);
-    !view.halted & ((!leg.moving | moved) & seen)
+    let movement = seen.movement;
+    let moved = along_leg(crate::is_forward(leg), movement);
+    let edge = edge_seen(leg, seen);
+    !seen.halted & (moved & edge)
 }
 
 // Whether the limit in the leg's direction rises, with or without movement.
-pub fn limit_counts(leg: Leg, view: View) -> bool
-    ensures { λ r. ⌜ r ≡ limitCounts leg view ⌝ }
+pub fn limit_counts(leg: u32, seen: Seen) -> bool
+    ensures { λ r. ⌜ r ≡ foundLimitCounts (legInDigit leg) (viewOf seen) ⌝ }
 {
-    let risen = edge_seen(Switch::LimitAhead, Edge::Rise, leg.forward, view);
-    !view.halted & risen
+    let ahead = limit_risen(crate::is_forward(leg), seen);
+    crate::is_leg(leg) & (!seen.halted & ahead)
 }

@@ -1,44 +1,19 @@
 // The legs of every method's routes (01: "Homing routes"), and when a leg's event counts.
+//
+// A leg is a number: 1 R, 2 D, 3 Z, and 4 more if forward, 8 more if fast. One with none of R, D and Z, as 0, is no leg.
 pub mod events;
 
 ghost use mathlib.Core.Path.{_≡_};
+ghost use Rattle.legs.specs.Found.{isLeg};
 ghost use Rattle.legs.specs.Places.{legAt};
-ghost use Rattle.legs.specs.Digits.{legInDigit, rowDigits};
-
-// What a leg's event looks at. LimitAhead is the limit in travel direction.
-pub enum Switch {
-    Home,
-    Index,
-    LimitAhead,
-}
-
-pub enum Edge {
-    Rise,
-    Drop,
-}
-
-// A leg: its direction and speed, and the event that ends it. moving: the event counts only with movement in the leg's direction.
-pub struct Leg {
-    pub forward: bool,
-    pub fast: bool,
-    pub switch: Switch,
-    pub edge: Edge,
-    pub moving: bool,
-}
-
-// What stands at a place of a method's row.
-pub enum Found {
-    Leg(Leg),
-    Nothing,
-}
+ghost use Rattle.legs.specs.Digits.{legInDigit, forwardIn, fastIn, rowDigits};
 
 // The places of a row: from 0 on route a, from TURN on route b without its first leg, from ON_HOME on route c. Each ends in an empty place.
 pub const TURN: u32 = 4;
 
 pub const ON_HOME: u32 = 8;
 
-// A method's row, a hexadecimal digit for each place: 1 R, 2 D, 3 Z, and 4 more if forward, 8 more if fast; 0 is an empty place.
-// 35 and a number that is no method have no leg.
+// A method's row, a hexadecimal digit for each place from the highest on; 0 is an empty place. 35 and a number that is no method have no leg.
 fn row_of(method: u32) -> u64
     ensures { λ r. ⌜ r ≡ rowDigits method ⌝ }
 {
@@ -57,46 +32,32 @@ fn row_of(method: u32) -> u64
     }
 }
 
-// The leg that a digit holds.
-fn leg_in(digit: u64) -> Found
-    ensures { λ r. ⌜ r ≡ legInDigit digit ⌝ }
-{
-    let forward = digit / 4 % 2 == 1;
-    let fast = digit / 8 % 2 == 1;
-    match digit % 4 {
-        1 => Found::Leg(Leg {
-            forward,
-            fast,
-            switch: Switch::Home,
-            edge: Edge::Rise,
-            moving: true,
-        }),
-        2 => Found::Leg(Leg {
-            forward,
-            fast,
-            switch: Switch::Home,
-            edge: Edge::Drop,
-            moving: true,
-        }),
-        3 => Found::Leg(Leg {
-            forward,
-            fast,
-            switch: Switch::Index,
-            edge: Edge::Rise,
-            moving: true,
-        }),
-        _ => Found::Nothing,
-    }
-}
-
-// A method's leg at a place.
-pub fn leg_at(method: u32, place: u32) -> Found
-    ensures { λ r. ⌜ r ≡ legAt method place ⌝ }
+// A method's leg at a place, 0 where none stands.
+pub fn leg_at(method: u32, place: u32) -> u32
+    ensures { λ r. ⌜ legInDigit r ≡ legAt method place ⌝ }
 {
     if place < 12 {
         let row = row_of(method);
-        leg_in((row >> (44 - 4 * place)) % 16)
+        ((row >> (44 - 4 * place)) % 16) as u32
     } else {
-        Found::Nothing
+        0
     }
+}
+
+pub fn is_leg(leg: u32) -> bool
+    ensures { λ r. ⌜ r ≡ isLeg (legInDigit leg) ⌝ }
+{
+    leg % 4 != 0
+}
+
+pub fn is_forward(leg: u32) -> bool
+    ensures { λ r. ⌜ r ≡ forwardIn leg ⌝ }
+{
+    leg / 4 % 2 == 1
+}
+
+pub fn is_fast(leg: u32) -> bool
+    ensures { λ r. ⌜ r ≡ fastIn leg ⌝ }
+{
+    leg / 8 % 2 == 1
 }

@@ -8,13 +8,15 @@ use borrow.Author.Tests.{lt-ltb, le-ltb}
 use lib.IntN.{ℤ, pos, negsuc}
 use lib.Signed.{mag}
 use Rattle.counts.specs.Wrap.{modulo, signed, wrapped}
+use Rattle.legs.specs.declared.events.Switches.{Switches}
+use Rattle.legs.specs.Events.{switchesIn}
 use Rattle.states.specs.declared.State.{State}
 use Rattle.states.specs.declared.State.the-variants.{NotReady, SwitchOnDisabled, Ready, SwitchedOn, OperationEnabled, QuickStopActive, FaultReaction, Fault}
 use Rattle.states.specs.States.{stateNumber}
 use Rattle.modes.specs.declared.Mode.{Mode}
 use Rattle.modes.specs.declared.Mode.the-variants.{None, Hybrid, Homing, Position, Torque}
 use Rattle.modes.specs.Modes.{modePlace}
-use Rattle.patterns.specs.Patterns.{switchesIn, weighed, stateOf, modeOf}
+use Rattle.patterns.specs.Patterns.{weighed, switchBits, stateOf, modeOf}
 
 pub signed-back : (z : ℤ) → mag z < 2 ^ 31 → wrapped (pos (modulo 32 z)) ≡ z
 unfolding modulo signed wrapped
@@ -23,24 +25,26 @@ signed-back (negsuc n) h =
     let e : (2 ^ 32 - suc (n % 2 ^ 32)) % 2 ^ 32 ≡ 2 ^ 32 - suc n = omega arith in
     rw (e, le-ltb (2 ^ 32 - suc n) (2 ^ 31) (omega arith), lt-ltb (2 ^ 32 - suc n) (2 ^ 32) (omega arith)) (ap negsuc (omega arith))
 
-pub bits-back : (a b c d : Bool)
-    → switchesIn ((weighed a 1 + weighed b 2 + weighed c 4 + weighed d 8) % 2 ^ 16) ≡ record { positive = a; negative = b; home = c; index = d }
-bits-back true true true true = refl
-bits-back true true true false = refl
-bits-back true true false true = refl
-bits-back true true false false = refl
-bits-back true false true true = refl
-bits-back true false true false = refl
-bits-back true false false true = refl
-bits-back true false false false = refl
-bits-back false true true true = refl
-bits-back false true true false = refl
-bits-back false true false true = refl
-bits-back false true false false = refl
-bits-back false false true true = refl
-bits-back false false true false = refl
-bits-back false false false true = refl
-bits-back false false false false = refl
+bits-of : (a b c d : Bool) → switchesIn (weighed a 1 + weighed b 2 + weighed c 4 + weighed d 8) ≡ record { positive = a; negative = b; home = c; index = d }
+bits-of true true true true = refl
+bits-of true true true false = refl
+bits-of true true false true = refl
+bits-of true true false false = refl
+bits-of true false true true = refl
+bits-of true false true false = refl
+bits-of true false false true = refl
+bits-of true false false false = refl
+bits-of false true true true = refl
+bits-of false true true false = refl
+bits-of false true false true = refl
+bits-of false true false false = refl
+bits-of false false true true = refl
+bits-of false false true false = refl
+bits-of false false false true = refl
+bits-of false false false false = refl
+
+pub bits-back : (s : Switches) → switchesIn (switchBits s) ≡ s
+bits-back s = bits-of (s .positive) (s .negative) (s .home) (s .index)
 
 pub state-back : (s : State) → stateOf (stateNumber s) ≡ s
 unfolding stateOf

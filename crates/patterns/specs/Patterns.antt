@@ -5,7 +5,6 @@ use mathlib.Core.Bool.{Bool, cond}
 use mathlib.Core.List.{List}
 use lib.Dec.{eqb}
 use lib.ListN.{getD}
-use Rattle.counts.specs.Bit.{bitOf}
 use Rattle.legs.specs.declared.events.Switches.{Switches}
 use Rattle.states.specs.declared.State.{State}
 use Rattle.states.specs.declared.State.the-variants.{NotReady, SwitchOnDisabled, Ready, SwitchedOn, OperationEnabled, QuickStopActive, FaultReaction, Fault}
@@ -16,10 +15,7 @@ use Rattle.modes.specs.declared.Mode.the-variants.{None, Hybrid, Homing, Positi
 abbrev pub wordAt : List ℕ → ℕ → ℕ
 wordAt l k = getD l k 0
 
--- four switches as a word's low bits, in the order POT, NOT, HOM, Z
-abbrev pub switchesIn : ℕ → Switches
-switchesIn bits = record { positive = bitOf bits 0; negative = bitOf bits 1; home = bitOf bits 2; index = bitOf bits 3 }
-
+-- four switches as the low bits of a word, which `switchesIn` of legs reads
 abbrev pub weighed : Bool → ℕ → ℕ
 weighed on weight = cond on weight 0
 

@@ -6,7 +6,8 @@ ghost use mathlib.Core.Path.{_≡_};
 ghost use Prim.Native.Nat.{_≤_};
 ghost use lib.IntN.{pos};
 ghost use Rattle.counts.specs.Wrap.{modulo, wrapped};
-ghost use Rattle.patterns.specs.Patterns.{switchesIn, weighed, switchBits, stateOf, modeOf};
+ghost use Rattle.legs.specs.Events.{switchesIn};
+ghost use Rattle.patterns.specs.Patterns.{weighed, switchBits, stateOf, modeOf};
 
 // A word read as signed.
 pub fn signed(word: u32) -> i32

@@ -65,8 +65,11 @@ judged s Accepted = complete s
 judged s (verdict.Refused r) = refused r
 
 -- 4: "end word's data differs from the sum"; then 5 and 6
+abbrev pub closeVerdict : Settings → ℕ → ℕ → Verdict
+closeVerdict s sum x = cond (eqb x sum) (limitsVerdict s) (verdict.Refused ChecksumMismatch)
+
 unfoldable pub endVerdict : List ℕ → ℕ → Verdict
-endVerdict values x = cond (eqb x (checksumOf values)) (limitsVerdict (settingsOf values)) (verdict.Refused ChecksumMismatch)
+endVerdict values x = closeVerdict (settingsOf values) (checksumOf values) x
 
 unfoldable pub endOf : Pending → ℕ → Reading
 endOf p x = judged (settingsOf (p .values)) (endVerdict (p .values) x)

@@ -1,9 +1,9 @@
 // Reading settings words: which kind is due, and what an end word meets.
 use settings::Refusal;
+use settings::Settings;
 use settings::Verdict;
-use words::decoder;
 ghost use mathlib.Core.Path.{_≡_};
-ghost use Rattle.reader.specs.Read.{dueKind, endVerdict};
+ghost use Rattle.reader.specs.Read.{dueKind, closeVerdict};
 
 // The kind of word that is due after so many.
 pub fn due_kind(count: u32) -> u32
@@ -12,12 +12,12 @@ pub fn due_kind(count: u32) -> u32
     if count < 14 { count } else { 15 }
 }
 
-// What an end word meets that closes these values: tests 4, 5 and 6.
-pub fn close(values: [u32; 14], sum: u32) -> Verdict
-    ensures { λ r. ⌜ r ≡ endVerdict values sum ⌝ }
+// What an end word meets that closes these settings, by their sum and its own: tests 4, 5 and 6.
+pub fn close(s: Settings, sum: u32, given: u32) -> Verdict
+    ensures { λ r. ⌜ r ≡ closeVerdict s sum given ⌝ }
 {
-    if sum == decoder::checksum(values) {
-        checks::check_limits(decoder::decode(values))
+    if given == sum {
+        checks::check_limits(s)
     } else {
         Verdict::Refused(Refusal::ChecksumMismatch)
     }

@@ -19,7 +19,8 @@ use Rattle.commands.specs.declared.Command.{Command}
 use Rattle.commands.specs.declared.Command.the-variants as command
 use Rattle.torque.specs.declared.LimitSet.{LimitSet}
 use Rattle.torque.specs.declared.LimitSet.the-variants.{Set1, Set2}
-use Rattle.patterns.specs.Patterns.{wordAt, switchesIn}
+use Rattle.legs.specs.Events.{switchesIn}
+use Rattle.patterns.specs.Patterns.{wordAt}
 use Rattle.ticks.specs.declared.Tick.{Tick}
 use Rattle.answers.specs.declared.Answer.{Answer}
 
@@ -89,6 +90,10 @@ answerWords a =
     ∷ modulo 32 (a .mode)
     ∷ a .alarm
     ∷ []
+
+-- a list's first seven elements, spelled out
+abbrev pub sevenOf : List ℕ → List ℕ
+sevenOf l = getD l 0 0 ∷ getD l 1 0 ∷ getD l 2 0 ∷ getD l 3 0 ∷ getD l 4 0 ∷ getD l 5 0 ∷ getD l 6 0 ∷ []
 
 -- fifteen fields in the order of the struct
 unfoldable pub settingsOfFields : List ℕ → Settings

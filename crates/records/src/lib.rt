@@ -8,8 +8,10 @@ use settings::Settings;
 use ticks::Tick;
 use torque::LimitSet;
 ghost use mathlib.Core.Path.{_≡_};
+ghost use lib.ListN.{length};
+ghost use lib.Seq.{sets};
 ghost use Rattle.patterns.specs.Patterns.{wordAt};
-ghost use Rattle.records.specs.Words.{floatAt, signedAt, controlIn, requestAt, gainsIn, set2If, commandIn, tickIn, settingsOfFields, answerWords};
+ghost use Rattle.records.specs.Words.{floatAt, signedAt, controlIn, requestAt, gainsIn, set2If, commandIn, tickIn, settingsOfFields, answerWords, sevenOf};
 
 // A word; 0 past the last.
 fn word(words: &[u32], at: usize) -> u32
@@ -74,37 +76,40 @@ fn command(e: &[u32], f: &[f32]) -> Command
     ensures { λ r. ⌜ r ≡ commandIn (now (e .entry)) (now (f .entry)) ⌝ }
 {
     let kind = word(e, 0);
-    let asked = request(e, 5);
     match kind {
         1 => Command::Hybrid(gains(f)),
-        2 => Command::Homing(asked),
-        3 => Command::Position(signed(e, 6), asked),
-        4 => Command::Torque(asked),
+        2 => Command::Homing(request(e, 5)),
+        3 => Command::Position(signed(e, 6), request(e, 5)),
+        4 => Command::Torque(request(e, 5)),
         _ => Command::Rest,
     }
 }
 
-// The tick of an event.
+// The tick of an event. Its command comes last, so that what looks at it next is not a branch of its own.
 pub fn tick(e: &[u32], f: &[f32]) -> Tick
     ensures { λ r. ⌜ r ≡ tickIn (now (e .entry)) (now (f .entry)) ⌝ }
 {
     let inputs = (word(e, 3) % 0x10000) as u16;
-    let command = command(e, f);
+    let control = control_word(word(e, 1));
+    let position = signed(e, 2);
     let switches = patterns::switches(inputs);
+    let still = counts::bit(inputs, 4);
     let set = limit_set(counts::bit(inputs, 5));
+    let alarm = word(e, 4);
+    let command = command(e, f);
     Tick {
-        control: control_word(word(e, 1)),
+        control,
         command,
-        position: signed(e, 2),
+        position,
         switches,
-        still: counts::bit(inputs, 4),
+        still,
         set,
-        alarm: word(e, 4),
+        alarm,
     }
 }
 
 // An answer's seven words.
-pub fn answer_words(a: Answer) -> [u32; 7]
+fn answer_words(a: Answer) -> [u32; 7]
     ensures { λ r. ⌜ r ≡ answerWords a ⌝ }
 {
     let torque = patterns::pattern(a.torque);
@@ -120,6 +125,32 @@ pub fn answer_words(a: Answer) -> [u32; 7]
         mode,
         a.alarm,
     ]
+}
+
+// By value an array tells its length; in a contract, a reference to it does not.
+fn answer_space(out: [u32; 7])
+    ensures { λ _. ⌜ length out ≡ 7 ⌝ }
+{}
+
+// One by one: a block would be copied byte by byte on a core that asks for alignment.
+fn put_words(out: &mut [u32; 7], w: [u32; 7])
+    ensures { λ _. ⌜ now (out .exit) ≡ sets (now (out .entry)) 0 (sevenOf w) ⌝ }
+{
+    out[0] = w[0];
+    out[1] = w[1];
+    out[2] = w[2];
+    out[3] = w[3];
+    out[4] = w[4];
+    out[5] = w[5];
+    out[6] = w[6];
+}
+
+// An answer, handed out as words.
+pub fn put_answer(out: &mut [u32; 7], a: Answer)
+    ensures { λ _. ⌜ now (out .exit) ≡ answerWords a ⌝ }
+{
+    answer_space(*out);
+    put_words(out, answer_words(a));
 }
 
 // Settings from their fifteen fields, in the order of the struct.

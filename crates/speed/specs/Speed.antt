@@ -5,9 +5,9 @@ use mathlib.Core.Bool.{Bool, cond}
 use lib.IntN.{ℤ, pos, negℤ}
 use Rattle.settings.specs.declared.Settings.{Settings}
 use Rattle.homing.specs.Phase.{Phase, Idle, Running, Homed, Failed}
-use Rattle.legs.specs.declared.Leg.{Leg}
-use Rattle.legs.specs.declared.Found.{Found}
-use Rattle.legs.specs.declared.Found.the-variants as found
+use Rattle.legs.specs.Legs.{Leg}
+use Rattle.legs.specs.Found.{Found}
+use Rattle.legs.specs.Found as found
 use Rattle.legs.specs.Places.{legAt}
 
 -- a magnitude with the sign of a direction. The least of it and 2 ^ 28 − 1 is a guard: in range it changes nothing (`proofs/Guard.antt`)

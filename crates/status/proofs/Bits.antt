@@ -12,8 +12,7 @@ use Rattle.states.specs.declared.State.the-variants.{NotReady, SwitchOnDisabled
 use Rattle.states.specs.Status.{statusOf}
 use Rattle.modes.specs.declared.Mode.{Mode}
 use Rattle.modes.specs.declared.Mode.the-variants.{Homing}
-use Rattle.status.specs.declared.Flags.{Flags}
-use Rattle.status.specs.Statusword.{weightOf, reachedOf, acknowledgedOf, homingErrorOf, statuswordOf}
+use Rattle.status.specs.Statusword.{Flags, weightOf, reachedOf, acknowledgedOf, homingErrorOf, statuswordOf}
 
 -- the drive's bits stay below bit 10, and bit 8 is none of them
 pub status-low : (s : State) → (statusOf s < 1024) × (statusOf s / 2 ^ 8 % 2 ≡ 0)

@@ -1,24 +1,11 @@
 // The statusword: the drive's bits, bit 8, and bits 10 to 13.
-use legs::events::Switches;
 use modes::Mode;
 use states::State;
 ghost use mathlib.Core.Path.{_≡_};
 ghost use Prim.Native.Nat.{_≤_};
-ghost use Rattle.status.specs.Statusword.{weightOf, limitedOf, reachedOf, acknowledgedOf, homingErrorOf, statuswordOf};
-
-// What the statusword shows besides the drive's state.
-pub struct Flags {
-    // The axis is homed.
-    pub homed: bool,
-    // Homing runs, also where it is halted.
-    pub running: bool,
-    // Homing error.
-    pub failed: bool,
-    // A target is followed.
-    pub following: bool,
-    // A limit switch is on, or the followed target was clamped.
-    pub limited: bool,
-}
+ghost use Rattle.legs.specs.Events.{switchesIn};
+ghost use Rattle.homing.specs.Phase.{phaseOf};
+ghost use Rattle.status.specs.Statusword.{weightOf, limitedOf, flagsIn, homingBits, otherBits, modeBits, statuswordOf};
 
 fn weight(flag: bool, weight: u16) -> u16
     ensures value { λ r. ⌜ r ≡ weightOf flag weight ⌝ }
@@ -27,42 +14,54 @@ fn weight(flag: bool, weight: u16) -> u16
     if flag { weight } else { 0 }
 }
 
-// Bit 11: a limit switch is on, or the followed target was clamped.
-pub fn limited(now: Switches, clamped: bool) -> bool
-    ensures { λ r. ⌜ r ≡ limitedOf now clamped ⌝ }
+// Bit 11: a limit switch is on, or the followed target was clamped. now: this tick's switches, as bits.
+pub fn limited(now: u32, clamped: bool) -> bool
+    ensures { λ r. ⌜ r ≡ limitedOf (switchesIn now) clamped ⌝ }
 {
-    now.positive | now.negative | clamped
+    (now % 2 == 1) | (now / 2 % 2 == 1) | clamped
 }
 
-// Bit 10: in homing mode, that homing does not run.
-fn reached(mode: Mode, f: Flags) -> bool
-    ensures { λ r. ⌜ r ≡ reachedOf mode f ⌝ }
+// What homing shows in its own mode: 10 unless it runs; 8 and 12 where homed, 13 on an error.
+fn homing_bits(phase: u32) -> u16
+    ensures value { λ r. ⌜ r ≡ homingBits (phaseOf phase) ⌝ }
+    ensures small { λ r. ⌜ r ≤ 0x2400 ⌝ }
 {
-    modes::is_mode(mode, Mode::Homing) & !f.running
+    if homing::is_running(phase) {
+        return 0;
+    }
+    if homing::is_homed(phase) {
+        return 0x1500;
+    }
+    if homing::has_failed(phase) {
+        0x2400
+    } else {
+        0x0400
+    }
 }
 
-// Bit 12: in homing mode, homed; in position mode, that a target is followed.
-fn acknowledged(mode: Mode, f: Flags) -> bool
-    ensures { λ r. ⌜ r ≡ acknowledgedOf mode f ⌝ }
+// In any other mode: 8 where homed, and in position mode 12 where a target is followed.
+fn other_bits(mode: Mode, phase: u32, following: bool) -> u16
+    ensures value { λ r. ⌜ r ≡ otherBits mode (phaseOf phase) following ⌝ }
+    ensures small { λ r. ⌜ r ≤ 0x1100 ⌝ }
 {
-    (modes::is_mode(mode, Mode::Homing) & f.homed)
-        | (modes::is_mode(mode, Mode::Position) & f.following)
+    weight(homing::is_homed(phase), 0x0100)
+        + weight(modes::is_mode(mode, Mode::Position) & following, 0x1000)
 }
 
-// Bit 13: in homing mode, homing error.
-fn homing_error(mode: Mode, f: Flags) -> bool
-    ensures { λ r. ⌜ r ≡ homingErrorOf mode f ⌝ }
+fn mode_bits(mode: Mode, phase: u32, following: bool) -> u16
+    ensures value { λ r. ⌜ r ≡ modeBits mode (phaseOf phase) following ⌝ }
+    ensures small { λ r. ⌜ r ≤ 0x2400 ⌝ }
 {
-    modes::is_mode(mode, Mode::Homing) & f.failed
+    if modes::is_mode(mode, Mode::Homing) {
+        homing_bits(phase)
+    } else {
+        other_bits(mode, phase, following)
+    }
 }
 
-pub fn statusword(state: State, mode: Mode, f: Flags) -> u16
-    ensures { λ r. ⌜ r ≡ statuswordOf state mode f ⌝ }
+// The statusword of a tick that leaves homing in this phase.
+pub fn statusword(state: State, mode: Mode, phase: u32, following: bool, limited: bool) -> u16
+    ensures { λ r. ⌜ r ≡ statuswordOf state mode (flagsIn (phaseOf phase) following limited) ⌝ }
 {
-    let homed = weight(f.homed, 256);
-    let reached = weight(reached(mode, f), 1024);
-    let limited = weight(f.limited, 2048);
-    let acknowledged = weight(acknowledged(mode, f), 4096);
-    let failed = weight(homing_error(mode, f), 8192);
-    states::status(state) + homed + reached + limited + acknowledged + failed
+    states::status(state) + mode_bits(mode, phase, following) + weight(limited, 0x0800)
 }

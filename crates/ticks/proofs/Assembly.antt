@@ -15,39 +15,25 @@ use Rattle.commands.specs.Commands.{modeOf}
 use Rattle.homing.specs.Phase.{Phase, homedIn}
 use Rattle.ticks.specs.declared.Tick.{Tick}
 use Rattle.ticks.specs.Motion.{Motion}
-use Rattle.ticks.specs.Moment.{newMode, newState, starting, newView, phaseAfter, newPhase, homeAfter, newHome, motionAfter}
+use Rattle.ticks.specs.Moment.{newMode, newState, starting, newView, phaseAfter, newPhase, homeAfter, newHome, motionWith, motionAfter}
 use Rattle.ticks.specs.Rules.{alarmIn, homingOn, homingIn, viewWith}
 
--- the motion of these values, which remembers the tick's inputs
-abbrev pub motionWith : Tick → State → Mode → ℕ → Phase → ℤ → ℤ → Motion
-motionWith t state mode alarm phase home position =
-    record {
-      state = state;
-      mode = mode;
-      alarm = alarm;
-      phase = phase;
-      home = home;
-      control = t .control;
-      switches = t .switches;
-      position = position;
-    }
-
 -- motions with equal fields
-same : (t : Tick) {state state2 : State} {mode mode2 : Mode} {alarm alarm2 : ℕ} {phase phase2 : Phase} {home home2 position position2 : ℤ}
-    → state ≡ state2 → mode ≡ mode2 → alarm ≡ alarm2 → phase ≡ phase2 → home ≡ home2 → position ≡ position2
-    → motionWith t state mode alarm phase home position ≡ motionWith t state2 mode2 alarm2 phase2 home2 position2
-same t a b c d e f = cc
+same : (t : Tick) {state state2 : State} {mode mode2 : Mode} {alarm alarm2 : ℕ} {phase phase2 : Phase} {home home2 : ℤ}
+    → state ≡ state2 → mode ≡ mode2 → alarm ≡ alarm2 → phase ≡ phase2 → home ≡ home2
+    → motionWith t state mode alarm phase home ≡ motionWith t state2 mode2 alarm2 phase2 home2
+same t a b c d e = cc
 
 module _ (s : Settings) (a : Motion) (t : Tick) where
-  pub assembled : {wanted mode : Mode} {alarm number : ℕ} {state : State} {on : Bool} {phase : Phase} {home position : ℤ}
+  pub assembled : {wanted mode : Mode} {alarm number : ℕ} {state : State} {on : Bool} {phase : Phase} {home : ℤ}
       → wanted ≡ modeOf (t .command) → mode ≡ shownOf wanted (a .mode) (a .state) (t .still) → alarm ≡ alarmIn s t
       → state ≡ nextOf (a .state) (t .control) (a .control) (t .still) (s .option) alarm → on ≡ homingOn wanted mode state
       → phase ≡ phaseAfter (a .phase) (s .method) (rises (a .control) (t .control) 4 && on) (viewWith (a .switches) (a .position) t on)
       → number ≡ latchedOf (a .alarm) (a .state) state alarm
       → home ≡ homeAfter (a .home) (rises (a .control) (t .control) 4 && on) (homedIn (a .phase)) (homedIn phase) (t .position)
-      → position ≡ t .position → motionWith t state mode number phase home position ≡ motionAfter s a t
+      → motionWith t state mode number phase home ≡ motionAfter s a t
   unfolding newPhase
-  assembled {wanted} {mode} {alarm} {number} {state} {on} {phase} {home} {position} e1 e2 e3 e4 e5 e6 e7 e8 e9 =
+  assembled {wanted} {mode} {alarm} {number} {state} {on} {phase} {home} e1 e2 e3 e4 e5 e6 e7 e8 =
       let m : mode ≡ newMode a t = e2 ∙ ap (λ (w : Mode). shownOf w (a .mode) (a .state) (t .still)) e1 in
       let st : state ≡ newState s a t = e4 ∙ ap (λ (n : ℕ). nextOf (a .state) (t .control) (a .control) (t .still) (s .option) n) e3 in
       let o : on ≡ homingIn t (newMode a t) (newState s a t) =
@@ -58,4 +44,4 @@ module _ (s : Settings) (a : Motion) (t : Tick) where
       let n : number ≡ latchedOf (a .alarm) (a .state) (newState s a t) (alarmIn s t) = e7 ∙ ap₂ (latchedOf (a .alarm) (a .state)) st e3 in
       let ho : home ≡ newHome s a t =
       e8 ∙ ap₂ (λ (x : Bool) (y : Phase). homeAfter (a .home) x (homedIn (a .phase)) (homedIn y) (t .position)) sg p in
-      same t st m n p ho e9
+      same t st m n p ho

@@ -10,7 +10,7 @@ use Rattle.modes.specs.declared.Mode.{Mode}
 use Rattle.commands.specs.declared.Demand.{Demand}
 use Rattle.commands.specs.declared.Command.{Command}
 use Rattle.commands.specs.declared.Command.the-variants.{Hybrid, Homing, Position, Torque, Rest}
-use Rattle.legs.specs.declared.events.View.{View}
+use Rattle.legs.specs.Events.{View}
 use Rattle.homing.specs.Phase.{Phase, homedIn}
 use Rattle.homing.specs.Places.{startOf, stepOf}
 use Rattle.position.specs.declared.Followed.{Followed}
@@ -58,18 +58,22 @@ targetOf (Torque request) matched state homed = Nothing
 targetOf Rest matched state homed = Nothing
 
 -- "then control word, switches and position are remembered"
-abbrev pub motionAfter : Settings → Motion → Tick → Motion
-motionAfter s a t =
+abbrev pub motionWith : Tick → State → Mode → ℕ → Phase → ℤ → Motion
+motionWith t state mode alarm phase home =
     record {
-      state = newState s a t;
-      mode = newMode a t;
-      alarm = latchedOf (a .alarm) (a .state) (newState s a t) (alarmIn s t);
-      phase = newPhase s a t;
-      home = newHome s a t;
+      state = state;
+      mode = mode;
+      alarm = alarm;
+      phase = phase;
+      home = home;
       control = t .control;
       switches = t .switches;
       position = t .position;
     }
+
+abbrev pub motionAfter : Settings → Motion → Tick → Motion
+motionAfter s a t =
+    motionWith t (newState s a t) (newMode a t) (latchedOf (a .alarm) (a .state) (newState s a t) (alarmIn s t)) (newPhase s a t) (newHome s a t)
 
 -- what a tick comes to: what is kept for the next tick, and what its answer needs besides
 pub record Moment : Type 0 where

@@ -19,7 +19,7 @@ use Rattle.modes.specs.Modes.{isMode, shownOf, matchedOf}
 use Rattle.commands.specs.declared.Demand.{Demand}
 use Rattle.commands.specs.Commands.{modeOf, demandOf, alarmOf}
 use Rattle.legs.specs.declared.events.Switches.{Switches}
-use Rattle.legs.specs.declared.events.View.{View}
+use Rattle.legs.specs.Events.{View}
 use Rattle.ticks.specs.declared.Tick.{Tick}
 
 -- the shown mode after a tick: by the mode shown and the state before it

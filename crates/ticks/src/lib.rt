@@ -1,13 +1,12 @@
 // One tick of an axis: its inputs, and what goes by more than one of them.
 use commands::Command;
 use legs::events::Switches;
-use legs::events::View;
 use modes::Mode;
 use position::Followed;
 use states::State;
 use torque::LimitSet;
 ghost use mathlib.Core.Path.{_≡_};
-ghost use Rattle.ticks.specs.Rules.{homingOn, viewWith};
+ghost use Rattle.ticks.specs.Rules.{homingOn};
 ghost use Rattle.ticks.specs.Moment.{homeAfter, targetOf};
 
 // The inputs of one tick.
@@ -30,20 +29,6 @@ pub fn homing_on(wanted: Mode, mode: Mode, state: State) -> bool
     modes::is_mode(wanted, Mode::Homing)
         & modes::is_matched(wanted, mode)
         & states::in_state(state, State::OperationEnabled)
-}
-
-// What homing sees of the tick, beside the switches and the position that are remembered.
-pub fn view(switches: Switches, position: i32, t: Tick, on: bool) -> View
-    ensures { λ r. ⌜ r ≡ viewWith switches position t on ⌝ }
-{
-    let now = t.switches;
-    View {
-        kept: counts::bit(t.control, 4) & on,
-        halted: counts::bit(t.control, 8),
-        movement: counts::moved(t.position, position),
-        before: switches,
-        now: now,
-    }
 }
 
 // Home is the position of the tick in which the axis becomes homed.

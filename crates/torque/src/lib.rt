@@ -70,8 +70,10 @@ fn held(demand: Demand, low: i32, high: i32) -> i32
 pub fn torque(s: Settings, set: LimitSet, on: bool, demand: Demand) -> i32
     ensures { λ r. ⌜ r ≡ torqueOf s set on (wholeDemand demand) ⌝ }
 {
-    let b = chosen_bounds(s, set);
-    let low = b.low;
-    let high = b.high;
-    if on { held(demand, low, high) } else { 0 }
+    if on {
+        let b = chosen_bounds(s, set);
+        held(demand, b.low, b.high)
+    } else {
+        0
+    }
 }

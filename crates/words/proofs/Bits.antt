@@ -16,11 +16,11 @@ use Rattle.settings.proofs.Within.{both}
 use Rattle.words.specs.Decode.{at, positionAt}
 use Rattle.words.specs.Encode.{limitSet}
 
-pub signed-low : (x : ℕ) → x < 2 ^ 27 → signed 28 x ≡ pos x
+signed-low : (x : ℕ) → x < 2 ^ 27 → signed 28 x ≡ pos x
 unfolding signed
 signed-low x h = rw (lt-ltb x (2 ^ 27) h)
 
-pub signed-high : (x : ℕ) → 2 ^ 27 ≤ x → x < 2 ^ 28 → signed 28 x ≡ negsuc (2 ^ 28 - suc x)
+signed-high : (x : ℕ) → 2 ^ 27 ≤ x → x < 2 ^ 28 → signed 28 x ≡ negsuc (2 ^ 28 - suc x)
 unfolding signed
 signed-high x h k = rw (le-ltb x (2 ^ 27) h, lt-ltb x (2 ^ 28) k)
 

@@ -1,3 +1,4 @@
 pub mod Words
 pub mod Bits
+pub mod Shifts
 pub mod Widths

@@ -1,22 +1,15 @@
 // From the words' data back to settings.
-use crate::KIND;
 use settings::Settings;
 ghost use mathlib.Core.Path.{_≡_};
 ghost use Prim.Native.Nat.{_%_, _^_};
 ghost use Rattle.counts.specs.Wrap.{signed};
 ghost use Rattle.words.specs.Decode.{settingsOf};
-ghost use Rattle.words.specs.Encode.{checksumOf};
 
-// The low 28 bits, read as signed.
+// The low 28 bits, read as signed. Of the two shifts, the one down keeps the sign.
 fn position(value: u32) -> i32
     ensures { λ r. ⌜ r ≡ signed 28 (value % 2 ^ 28) ⌝ }
 {
-    let low = value % KIND;
-    if low < 0x8000000 {
-        low as i32
-    } else {
-        low as i32 - 0x10000000
-    }
+    (((value as i64) << 36) >> 36) as i32
 }
 
 // The settings that the values of kinds 0 to 13 carry.
@@ -43,15 +36,4 @@ pub fn decode(values: [u32; 14]) -> Settings
         option: values[12],
         rated: values[13],
     }
-}
-
-// The sum of the values, modulo 2^28.
-pub fn checksum(values: [u32; 14]) -> u32
-    ensures { λ r. ⌜ r ≡ checksumOf values ⌝ }
-{
-    let mut total: u64 = 0;
-    for i in 0..14 {
-        total += values[i] as u64;
-    }
-    (total % 0x10000000) as u32
 }

@@ -19,13 +19,13 @@ activate-requires c κs = search needs
 returns : tie.Need-returns
 returns c =
     let i = c .before in
-    live-end _ _ (sym (i .is-live .ensures ∙ ap liveOf (i .before .state .ensures)) ∙ c .if1 .taken)
+    live-end _ (sym (i .is-live .ensures ∙ ap liveOf (i .before .state .ensures)) ∙ c .if1 .taken)
 
 returns-2 : tie.Need-returns-2
 returns-2 c =
     let e = c .before .before in
     let i = e .before in
-    activating-end _ _ _ (sym (i .is-live .ensures ∙ ap liveOf (i .before .state .ensures)) ∙ e .if1 .left) (c .activate .ensures)
+    activating-end _ _ (sym (i .is-live .ensures ∙ ap liveOf (i .before .state .ensures)) ∙ e .if1 .left) (c .activate .ensures)
 
 pub complete-spec : {M : Type 1} → statement M
 complete-spec =

@@ -1,13 +1,16 @@
 -- `axis::finish` meets its contract.
 -- Assumes nothing.
-use mathlib.Core.Path.{sym, _∙_}
+use mathlib.Core.Path.{sym, ap₂, _∙_}
 use Rattle.axis.proofs.Taking.{complete-end, refused-end}
 use borrow.Author.Needs.{needs}
 use Rattle.axis.proofs.finish.Statement.{statement}
 use Rattle.axis.proofs.finish.Tie as tie
 
-values-requires : tie.Need-values-requires
-values-requires c κs = search needs
+pending-settings-requires : tie.Need-pending-settings-requires
+pending-settings-requires c κs = search needs
+
+checksum-requires : tie.Need-checksum-requires
+checksum-requires c κs = search needs
 
 close-requires : tie.Need-close-requires
 close-requires c κs = search needs
@@ -28,18 +31,19 @@ returns : tie.Need-returns
 returns c =
     let e = c .before .before .before .before in
     let q = e .before .before in
-    let v = q .before in
+    let k = q .before in
+    let v = k .before .before in
     let b = v .before .before in
     complete-end
     (b .args .axis .now)
-    (v .values .result)
     (e .empty .last .0)
     (c .complete .last .0)
     (b .args .sum)
+    (q .close .result)
     (c .complete .result)
     (b .pre)
-    (v .values .ensures)
-    (sym (q .close .ensures) ∙ c .before .before .enum-told .given .1)
+    (q .close .ensures ∙ rw (v .pending-settings .ensures, k .checksum .ensures))
+    (c .before .before .enum-told .given .1)
     (e .empty .ensures)
     (c .complete .ensures)
 
@@ -47,24 +51,26 @@ returns-2 : tie.Need-returns-2
 returns-2 c =
     let e = c .before .before .before in
     let q = e .before .before in
-    let v = q .before in
+    let k = q .before in
+    let v = k .before .before in
     let b = v .before .before in
     refused-end
     (b .args .axis .now)
-    (v .values .result)
     (e .empty .last .0)
     (b .args .sum)
+    (q .close .result)
     _
     (b .pre)
-    (v .values .ensures)
-    (sym (q .close .ensures) ∙ c .before .verdict .given .1)
+    (q .close .ensures ∙ rw (v .pending-settings .ensures, k .checksum .ensures))
+    (c .before .verdict .given .1)
     (e .empty .ensures)
 
 pub finish-spec : {M : Type 1} → statement M
 finish-spec =
     tie.close
     (tie.spec
-    values-requires
+    pending-settings-requires
+    checksum-requires
     close-requires
     empty-requires
     enum-told

@@ -8,14 +8,19 @@ use Rattle.cells.proofs.activate.Tie as tie
 lent-requires : tie.Need-lent-requires
 lent-requires c κs = search needs
 
-put-values-requires : tie.Need-put-values-requires
-put-values-requires c κs = search needs
+copy-values-requires : tie.Need-copy-values-requires
+copy-values-requires c κs = search needs
 
 element-write-axis : tie.Need-element-write-axis
 element-write-axis c = search needs
 
+element-write-axis-2 : tie.Need-element-write-axis-2
+element-write-axis-2 c = search needs
+
 returns : tie.Need-returns
-returns c = rw (c .put-values .ensures) (activated (c .before .before .before .before .args .axis .now) (c .before .before .lent .ensures) _)
+returns c = rw (c .copy-values .ensures) (activated (c .before .before .before .before .args .axis .now) (c .before .before .lent .ensures))
 
 pub activate-spec : {M : Type 1} → statement M
-activate-spec = tie.close (tie.spec lent-requires put-values-requires element-write-axis returns)
+activate-spec =
+    tie.close
+    (tie.spec lent-requires copy-values-requires element-write-axis element-write-axis-2 returns)

@@ -6,7 +6,6 @@ use mathlib.Core.List.{[], _∷_}
 use Rattle.counts.specs.Wrap.{modulo}
 use Rattle.states.specs.States.{stateNumber}
 use Rattle.modes.specs.Modes.{modePlace}
-use Rattle.patterns.specs.Patterns.{switchBits}
 use Rattle.patterns.proofs.Numbers.{read32}
 use Rattle.cells.specs.declared.Motion.{Motion}
 use Rattle.cells.specs.Writes.{motionWords}
@@ -27,31 +26,28 @@ state-number-requires c κs = search needs
 place-requires : tie.Need-place-requires
 place-requires c κs = search needs
 
-cast-t9 : tie.Need-cast-t9
-cast-t9 c = search needs
-
-switch-bits-requires : tie.Need-switch-bits-requires
-switch-bits-requires c κs = search needs
+cast-t8 : tie.Need-cast-t8
+cast-t8 c = search needs
 
 -- the fields of a struct fit their types
 fit : (b : tie.Start) → Fit (b .args .m)
 fit b = record { home = search needs; control = search needs; position = search needs }
 
--- two patterns and three numbers decide the rest
-built : (m : Motion) {s d h w x : ℕ} → s ≡ stateNumber (m .state) → d ≡ modePlace (m .mode) → h ≡ modulo 32 (m .home) → w ≡ switchBits (m .switches)
-    → x ≡ modulo 32 (m .position) → (s ∷ d ∷ m .alarm ∷ m .phase ∷ h ∷ m .control ∷ w ∷ x ∷ []) ≡ motionWords m
+-- two patterns and two numbers decide the rest
+built : (m : Motion) {s d h x : ℕ} → s ≡ stateNumber (m .state) → d ≡ modePlace (m .mode) → h ≡ modulo 32 (m .home)
+    → x ≡ modulo 32 (m .position) → (s ∷ d ∷ m .alarm ∷ m .phase ∷ h ∷ m .control ∷ m .switches ∷ x ∷ []) ≡ motionWords m
 unfolding motionWords
-built m s d h w x = rw (s, d, h, w, x)
+built m s d h x = rw (s, d, h, x)
 
 returns : tie.Need-returns
 returns c =
-    let n = c .before .before .before in
+    let n = c .before .before in
     let x = n .before in
     let h = x .before .before in
-    let b = h .before .before .before in
+    let b = h .before .before in
     let m = b .args .m in
     let f = fit b in
-    built m (n .state-number .ensures) (c .before .before .place .ensures) (h .pattern .ensures ∙ ap (modulo 32) (read32 (m .home) (f .home))) (c .switch-bits .ensures) (x .pattern2 .ensures ∙ ap (modulo 32) (read32 (m .position) (f .position)))
+    built m (n .state-number .ensures) (c .before .place .ensures) (h .pattern .ensures ∙ ap (modulo 32) (read32 (m .home) (f .home))) (x .pattern2 .ensures ∙ ap (modulo 32) (read32 (m .position) (f .position)))
 
 pub motion-words-spec : {M : Type 1} → statement M
 motion-words-spec =
@@ -61,6 +57,5 @@ motion-words-spec =
     pattern-requires-2
     state-number-requires
     place-requires
-    cast-t9
-    switch-bits-requires
+    cast-t8
     returns)

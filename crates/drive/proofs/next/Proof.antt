@@ -1,27 +1,69 @@
--- `drive::next` meets its contract.
+-- `drive::next` meets its contract: the arms of the fault states are clauses of the definition, all other states have one.
 -- Assumes nothing.
-use Rattle.drive.specs.Transitions.{nextOf}
+use mathlib.Core.Path.{_≡_, refl, _∙_}
+use mathlib.Core.Bool.{cond, not, Bool·not-not}
+use mathlib.Core.List.{[], _∷_}
+use lib.Dec.{eqb}
 use borrow.Author.Needs.{needs}
+use Rattle.states.specs.declared.State.the-variants.{FaultReaction}
+use Rattle.control.specs.Control.{controlCommandOf, rises}
+use Rattle.drive.specs.Transitions.{quietOf, settled, nextOf}
+use Rattle.drive.proofs.Arms.{state-arm}
 use Rattle.drive.proofs.next.Statement.{statement}
 use Rattle.drive.proofs.next.Tie as tie
+
+enum-told : tie.Need-enum-told
+enum-told c = search needs
+
+enum-told-2 : tie.Need-enum-told-2
+enum-told-2 c = search needs
 
 rising-requires : tie.Need-rising-requires
 rising-requires c κs = search needs
 
-control-command-requires : tie.Need-control-command-requires
-control-command-requires c κs = search needs
-
-quiet-requires : tie.Need-quiet-requires
-quiet-requires c κs = search needs
-
-settle-requires : tie.Need-settle-requires
-settle-requires c κs = search needs
+calm-requires : tie.Need-calm-requires
+calm-requires c κs = search needs
 
 returns : tie.Need-returns
 unfolding nextOf
-returns c = rw (c .settle .ensures, c .before .quiet .ensures, c .before .before .control-command .ensures, c .before .before .before .rising .ensures)
+returns c = rw (c .enum-told .given .1)
+
+returns-2 : tie.Need-returns-2
+unfolding nextOf
+returns-2 c = rw (c .before .before .enum-told2 .given .1, Bool·not-not, ← c .before .rising .ensures, c .if1 .taken)
+
+returns-3 : tie.Need-returns-3
+unfolding nextOf
+returns-3 c = rw (c .before .before .enum-told2 .given .1, Bool·not-not, ← c .before .rising .ensures, c .if1 .left)
+
+-- a state that is neither: an alarm, or the calm answer
+other : (c : tie.At-match-keys3)
+    → let x = c .before .args in
+    cond (not (eqb (x .alarm) 0)) FaultReaction (quietOf (x .state) (controlCommandOf (x .control)) (x .still) (x .option))
+    ≡ nextOf (x .state) (x .control) (x .before) (x .still) (x .option) (x .alarm)
+unfolding nextOf
+other c =
+    let x = c .before .args in
+    let quiet = quietOf (x .state) (controlCommandOf (x .control)) (x .still) (x .option) in
+    let alarm = not (eqb (x .alarm) 0) in
+    state-arm (λ s. cond alarm FaultReaction quiet) (λ s. settled s alarm (rises (x .before) (x .control) 7) quiet) (x .state) (0 ∷ 1 ∷ 2 ∷ 3 ∷ 4 ∷ 5 ∷ []) (c .match .keys3) refl
+
+returns-4 : tie.Need-returns-4
+returns-4 c = c .calm .ensures ∙ rw (c .before .if2 .taken) at (other (c .before .before))
+
+returns-5 : tie.Need-returns-5
+returns-5 c = rw (c .if2 .left) at (other (c .before))
 
 pub next-spec : {M : Type 1} → statement M
 next-spec =
     tie.close
-    (tie.spec rising-requires control-command-requires quiet-requires settle-requires returns)
+    (tie.spec
+    enum-told
+    enum-told-2
+    rising-requires
+    calm-requires
+    returns
+    returns-2
+    returns-3
+    returns-4
+    returns-5)

@@ -1,14 +1,14 @@
--- `gears::geared` meets its contract: the difference of two 32-bit numbers, times at most 2 ^ 20, fits 64 bits.
+-- `gears::geared` meets its contract: what it divides fits 64 bits (`Product`).
 -- Assumes nothing.
-use Prim.Native.Nat.{_+_, _^_, _≤_}
-use mathlib.Core.Path.{_≡_, _∙_}
+use Prim.Native.Nat.{_^_, _≤_}
+use mathlib.Core.Path.{_∙_}
 use native.Mathlib.Omega.{arith}
-use lib.IntN.{pos, _-ℤ_, _*ℤ_}
 use mir.Facts.{toZ-ofZ}
-use mir.Syntax.{w32, w64}
-use mir.Val.{SFits, toZ}
-use Rattle.counts.proofs.Integers.{wide, read-wide, read-unsigned, cast-fits, sub-read-fits, mag-sub, mag-mul}
+use mir.Syntax.{w32}
+use mir.Val.{SFits}
+use Rattle.counts.proofs.Integers.{cast-fits, sub-read-fits}
 use Rattle.gears.specs.Gear.{gearedOf}
+use Rattle.gears.proofs.Product.{product-fits, product-read}
 use borrow.Author.Needs.{needs}
 use Rattle.gears.proofs.geared.Statement.{statement}
 use Rattle.gears.proofs.geared.Tie as tie
@@ -28,26 +28,8 @@ capped-requires c κs = search needs
 cast-floor-div : tie.Need-cast-floor-div
 cast-floor-div c = search needs
 
-offset : (c : tie.After-capped) → SFits w32 (c .before .before .before .args .s .offset)
-offset c = search needs
-
--- the difference, as the machine computes it and as a number
-units : (c : tie.After-capped) → SFits w64 (wide (c .before .before .before .args .position) -ℤ wide (c .before .before .before .args .s .offset))
-units c = sub-read-fits (c .before .before .before .fits .position) (offset c)
-
-read : (c : tie.After-capped) → toZ w64 (c .capped .result) ≡ pos (c .capped .result)
-read c = read-unsigned (c .capped .result) (search needs)
-
-product : (c : tie.After-capped) → SFits w64 ((c .before .before .before .args .position -ℤ c .before .before .before .args .s .offset) *ℤ pos (c .capped .result))
-product c =
-    let s = c .before .before .before in
-    let z = s .args .position -ℤ s .args .s .offset in
-    let small = mag-sub (s .args .position) (s .args .s .offset) (2 ^ 32 + 2) (omega (arith, s .fits .position .sfits, offset c .sfits)) in
-    let cap : c .capped .result ≤ 2 ^ 20 = omega arith in
-    record { sfits = omega (arith, mag-mul z (c .capped .result) (2 ^ 32 + 2) (2 ^ 20) small cap) }
-
 mul-floor-div : tie.Need-mul-floor-div
-mul-floor-div c = rw (toZ-ofZ (units c), read-wide (c .before .before .before .fits .position), read-wide (offset c), read c) (product c)
+mul-floor-div c = let h : c .capped .result ≤ 2 ^ 20 = omega arith in search (product-fits, needs)
 
 floor-div-requires : tie.Need-floor-div-requires
 floor-div-requires c κs = search needs
@@ -57,9 +39,10 @@ unfolding gearedOf
 returns c =
     let b = c .before in
     let s = b .before .before .before in
+    let offset : SFits w32 (s .args .s .offset) = search needs in
     toZ-ofZ {z = c .floor-div .result} (search needs)
     ∙ c .floor-div .ensures
-    ∙ rw (toZ-ofZ (units b), read-wide (s .fits .position), read-wide (offset b), read b, toZ-ofZ (product b), b .capped .ensures)
+    ∙ rw (product-read {k = b .capped .result} (s .fits .position) offset (omega arith), b .capped .ensures)
 
 pub geared-spec : {M : Type 1} → statement M
 geared-spec =

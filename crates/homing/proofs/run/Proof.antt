@@ -1,32 +1,63 @@
 -- `homing::run` meets its contract: each path settles the definition's tests, in its order.
 -- Assumes nothing.
 use Prim.Native.Nat.{_<_}
-use mathlib.Core.Path.{_≡_, sym, _∙_}
+use mathlib.Core.Path.{_≡_, sym, ap, _∙_}
+use mathlib.Core.Bool.{not, cond, Bool·not-not}
 use native.Mathlib.Omega.{arith}
-use Rattle.legs.specs.declared.Found.the-variants as found
+use Rattle.legs.specs.Events.{viewOf, foundCounts, foundLimitCounts}
 use Rattle.legs.specs.Places.{legAt}
 use Rattle.legs.proofs.Table.{placed}
+use Rattle.homing.specs.Phase.{Running}
+use Rattle.homing.specs.Places.{limitAt, runningOf}
 use Rattle.homing.proofs.Phases.{running-at}
-use Rattle.homing.proofs.Arms.{run-end, run-idle, run-event, run-limit, run-stays}
+use Rattle.homing.proofs.Arms.{tested, run-tests}
 use borrow.Author.Needs.{needs}
 use Rattle.homing.proofs.run.Statement.{statement}
 use Rattle.homing.proofs.run.Tie as tie
 
--- the leg that was found stands at the place
-leg : (c : tie.After-found) → legAt (c .before .before .before .args .method) (c .before .before .before .args .place) ≡ found.Leg (c .found .given .0 .0)
-leg c = sym (c .before .before .leg-at .ensures) ∙ c .found .given .1
+-- the definition, in the tests of the leg that was found
+tests : (l : tie.After-is-leg) → let x = l .before .before .args in
+    let f = legAt (x .method) (x .place) in
+    runningOf (x .method) (x .place) (viewOf (x .seen))
+    ≡ tested (l .is-leg .result) (x .seen .kept) (foundCounts f (viewOf (x .seen))) (foundLimitCounts f (viewOf (x .seen))) (x .method) (x .place)
+tests l =
+    let x = l .before .before .args in
+    run-tests (x .method) (x .place) (viewOf (x .seen)) ∙ rw (← l .before .leg-at .ensures, ← l .is-leg .ensures)
 
-room : (c : tie.After-found) → c .before .before .before .args .place < 12
-room c = let x = c .before .before .before .args in placed (x .method) (x .place) (c .found .given .0 .0) (leg c)
+-- and where the leg is kept and its event does not count, in the limit's
+limit : (b : tie.After-limit-counts) → let x = b .before .before .before .before .before .before .before .before .args in
+    runningOf (x .method) (x .place) (viewOf (x .seen)) ≡ cond (b .limit-counts .result) (limitAt (x .method) (x .place)) (Running (x .place))
+limit b =
+    let v = b .before .before in
+    let k = v .before in
+    let e = k .before .before in
+    tests (e .before) ∙ rw (
+      e .if1 .left,
+      k .if2 .left,
+      ← e .before .before .leg-at .ensures,
+      ← v .event-counts .ensures,
+      b .before .if3 .left,
+      ← b .limit-counts .ensures,
+    )
+
+room : (e : tie.Else1) → e .before .before .before .args .place < 12
+room e =
+    let l = e .before in
+    let x = l .before .before .args in
+    let h = sym (Bool·not-not (l .is-leg .result)) ∙ ap not (e .if1 .left) in
+    placed (x .method) (x .place) (rw (← l .before .leg-at .ensures, ← l .is-leg .ensures) h)
 
 leg-at-requires : tie.Need-leg-at-requires
 leg-at-requires c κs = search needs
 
-enum-told : tie.Need-enum-told
-enum-told c = search needs
+is-leg-requires : tie.Need-is-leg-requires
+is-leg-requires c κs = search needs
 
-enum-known-found : tie.Need-enum-known-found
-enum-known-found c = search needs
+returns : tie.Need-returns
+returns c = sym (tests (c .before) ∙ rw (c .if1 .taken))
+
+returns-2 : tie.Need-returns-2
+returns-2 c = let e = c .before .before in sym (tests (e .before) ∙ rw (e .if1 .left, c .if2 .taken))
 
 event-counts-requires : tie.Need-event-counts-requires
 event-counts-requires c κs = search needs
@@ -37,13 +68,13 @@ add-enter c = let h = room (c .before .before .before .before) in record { fits 
 enter-requires : tie.Need-enter-requires
 enter-requires c κs = search needs
 
-returns : tie.Need-returns
-returns c =
-    let e = c .before .before in
-    let f = e .before .before .before in
-    let x = f .before .before .before .args in
+returns-3 : tie.Need-returns-3
+returns-3 c =
+    let v = c .before .before in
+    let k = v .before in
+    let e = k .before .before in
     c .enter .ensures
-    ∙ sym (run-event (x .method) (x .place) (x .view) _ (leg f) (e .before .if1 .taken) (sym (e .event-counts .ensures) ∙ c .before .if2 .taken))
+    ∙ sym (tests (e .before) ∙ rw (e .if1 .left, k .if2 .left, ← e .before .before .leg-at .ensures, ← v .event-counts .ensures, c .before .if3 .taken))
 
 limit-counts-requires : tie.Need-limit-counts-requires
 limit-counts-requires c κs = search needs
@@ -54,53 +85,28 @@ at-limit-requires c κs = search needs
 add-result : tie.Need-add-result
 add-result c = let h = room (c .before .before .before .before .before .before) in record { fits = omega arith }
 
-returns-2 : tie.Need-returns-2
-returns-2 c =
-    let s = c .before .before in
-    let x = s .before .args in
-    sym (run-end (x .method) (x .place) (x .view) (sym (s .leg-at .ensures) ∙ c .enum-told .given .1))
-
-returns-3 : tie.Need-returns-3
-returns-3 c =
-    let b = c .before .before in
-    let e = b .before .before in
-    let f = e .before .before .before in
-    let x = f .before .before .before .args in
-    c .at-limit .ensures
-    ∙ sym (run-limit (x .method) (x .place) (x .view) _ (leg f) (e .before .if1 .taken)
-    (sym (e .event-counts .ensures) ∙ b .before .if2 .left) (sym (b .limit-counts .ensures) ∙ c .before .if3 .taken))
-
 returns-4 : tie.Need-returns-4
-returns-4 c =
-    let b = c .before in
-    let e = b .before .before in
-    let f = e .before .before .before in
-    let x = f .before .before .before .args in
-    running-at (x .place)
-    ∙ sym (run-stays (x .method) (x .place) (x .view) _ (leg f) (e .before .if1 .taken)
-    (sym (e .event-counts .ensures) ∙ b .before .if2 .left) (sym (b .limit-counts .ensures) ∙ c .if3 .left))
+returns-4 c = c .at-limit .ensures ∙ sym (limit (c .before .before) ∙ rw (c .before .if4 .taken))
 
 returns-5 : tie.Need-returns-5
 returns-5 c =
-    let f = c .before .before in
-    let x = f .before .before .before .args in
-    sym (run-idle (x .method) (x .place) (x .view) _ (leg f) (c .if1 .left))
+    let b = c .before in
+    running-at (b .before .before .before .before .before .before .before .before .args .place) ∙ sym (limit b ∙ rw (c .if4 .left))
 
 pub run-spec : {M : Type 1} → statement M
 run-spec =
     tie.close
     (tie.spec
     leg-at-requires
-    enum-told
-    enum-known-found
+    is-leg-requires
+    returns
+    returns-2
     event-counts-requires
     add-enter
     enter-requires
-    returns
+    returns-3
     limit-counts-requires
     at-limit-requires
     add-result
-    returns-2
-    returns-3
     returns-4
     returns-5)

@@ -1,6 +1,7 @@
 -- `homing::step` meets its contract: below 3 every clause of the definition leaves the phase, and from 3 on a leg runs.
 -- Assumes nothing.
 use mathlib.Core.Path.{_≡_, refl}
+use Rattle.legs.specs.Events.{viewOf}
 use Rattle.homing.specs.Places.{stepOf}
 use Rattle.homing.proofs.Phases.{resting, running}
 use borrow.Author.Needs.{needs}
@@ -11,7 +12,7 @@ run-requires : tie.Need-run-requires
 run-requires c κs = search needs
 
 returns : tie.Need-returns
-returns c = let x = c .before .args in resting (λ p. p ≡ stepOf p (x .method) (x .view)) refl refl refl (x .phase) (c .if1 .taken)
+returns c = let x = c .before .args in resting (λ p. p ≡ stepOf p (x .method) (viewOf (x .seen))) refl refl refl (x .phase) (c .if1 .taken)
 
 returns-2 : tie.Need-returns-2
 returns-2 c = rw (running (c .before .before .args .phase) (c .before .if1 .left)) (c .run .ensures)

@@ -1,6 +1,8 @@
 -- `homing::stop` meets its contract: below 3 every clause of the definition leaves the phase, and from 3 on a leg runs.
 -- Assumes nothing.
-use mathlib.Core.Path.{_≡_, refl}
+use mathlib.Core.Path.{_≡_, refl, sym, _∙_}
+use Rattle.legs.specs.Digits.{legInDigit}
+use Rattle.legs.proofs.Digit.{some-leg, no-leg}
 use Rattle.homing.specs.Places.{stoppedOf}
 use Rattle.homing.proofs.Phases.{resting, running}
 use borrow.Author.Needs.{needs}
@@ -13,21 +15,20 @@ returns c = let x = c .before .args in resting (λ p. p ≡ stoppedOf p (x .meth
 leg-at-requires : tie.Need-leg-at-requires
 leg-at-requires c κs = search needs
 
-enum-told : tie.Need-enum-told
-enum-told c = search needs
-
-enum-told-2 : tie.Need-enum-told-2
-enum-told-2 c = search needs
+is-leg-requires : tie.Need-is-leg-requires
+is-leg-requires c κs = search needs
 
 returns-2 : tie.Need-returns-2
 returns-2 c =
     let l = c .before .before in
-    rw (running (l .before .before .args .phase) (l .before .if1 .left), ← l .leg-at .ensures, c .enum-told .given .1)
+    let leg = some-leg (legInDigit (l .leg-at .result)) (sym (c .before .is-leg .ensures) ∙ c .if2 .taken) in
+    rw (running (l .before .before .args .phase) (l .before .if1 .left), ← l .leg-at .ensures, leg .1)
 
 returns-3 : tie.Need-returns-3
 returns-3 c =
     let l = c .before .before in
-    rw (running (l .before .before .args .phase) (l .before .if1 .left), ← l .leg-at .ensures, c .enum-told2 .given .1)
+    let none = no-leg (legInDigit (l .leg-at .result)) (sym (c .before .is-leg .ensures) ∙ c .if2 .left) in
+    rw (running (l .before .before .args .phase) (l .before .if1 .left), ← l .leg-at .ensures, none)
 
 pub stop-spec : {M : Type 1} → statement M
-stop-spec = tie.close (tie.spec returns leg-at-requires enum-told enum-told-2 returns-2 returns-3)
+stop-spec = tie.close (tie.spec returns leg-at-requires is-leg-requires returns-2 returns-3)

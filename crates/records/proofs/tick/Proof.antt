@@ -11,7 +11,8 @@ use Rattle.commands.specs.declared.Command.{Command}
 use Rattle.torque.specs.declared.LimitSet.{LimitSet}
 use Rattle.legs.specs.declared.events.Switches.{Switches}
 use Rattle.ticks.specs.declared.Tick.{Tick}
-use Rattle.patterns.specs.Patterns.{wordAt, switchesIn}
+use Rattle.legs.specs.Events.{switchesIn}
+use Rattle.patterns.specs.Patterns.{wordAt}
 use Rattle.patterns.proofs.Numbers.{read32}
 use Rattle.records.specs.Words.{signedAt, controlIn, inputsAt, set2If, commandIn, tickIn}
 use borrow.Author.Needs.{needs}
@@ -24,18 +25,6 @@ word-requires c κs = tt
 cast-inputs : tie.Need-cast-inputs
 cast-inputs c = search needs
 
-command-requires : tie.Need-command-requires
-command-requires c κs = tt
-
-switches-requires : tie.Need-switches-requires
-switches-requires c κs = tt
-
-bit-requires : tie.Need-bit-requires
-bit-requires c κs = tt
-
-limit-set-requires : tie.Need-limit-set-requires
-limit-set-requires c κs = tt
-
 word-requires-2 : tie.Need-word-requires-2
 word-requires-2 c κs = tt
 
@@ -45,11 +34,23 @@ control-word-requires c κs = tt
 signed-requires : tie.Need-signed-requires
 signed-requires c κs = tt
 
+switches-requires : tie.Need-switches-requires
+switches-requires c κs = tt
+
+bit-requires : tie.Need-bit-requires
+bit-requires c κs = tt
+
 bit-requires-2 : tie.Need-bit-requires-2
 bit-requires-2 c κs = tt
 
+limit-set-requires : tie.Need-limit-set-requires
+limit-set-requires c κs = tt
+
 word-requires-3 : tie.Need-word-requires-3
 word-requires-3 c κs = tt
+
+command-requires : tie.Need-command-requires
+command-requires c κs = tt
 
 -- its parts decide it
 built : (e : List ℕ) (f : List Float) {i h a : ℕ} {m : Command} {p : ℤ} {w : Switches} {b d : Bool} {l : LimitSet}
@@ -60,22 +61,25 @@ built e f i h m p w b d l a = rw (h, m, p, w, b, l, d, a, i)
 
 returns : tie.Need-returns
 returns c =
-    let s = c .before .before in
+    let a = c .before in
+    let l = a .before in
+    let d = l .before in
+    let b = d .before in
+    let w = b .before in
+    let s = w .before in
     let h = s .before in
-    let l = h .before .before in
-    let w = l .before .before in
     built
     _
     _
-    (ap (λ (n : ℕ). n % 2 ^ 16) (w .before .before .word .ensures))
+    (ap (λ (n : ℕ). n % 2 ^ 16) (h .before .before .word .ensures))
     (h .control-word .ensures ∙ ap controlIn (h .before .word2 .ensures))
-    (w .before .command .ensures)
+    (c .command .ensures)
     (read32 (s .signed .result) (s .signed .ok) ∙ s .signed .ensures)
     (w .switches .ensures)
-    (c .before .bit2 .ensures)
-    (l .before .bit .ensures)
+    (b .bit .ensures)
+    (d .bit2 .ensures)
     (l .limit-set .ensures)
-    (c .word3 .ensures)
+    (a .word3 .ensures)
 
 pub tick-spec : {M : Type 1} → statement M
 tick-spec =
@@ -83,13 +87,13 @@ tick-spec =
     (tie.spec
     word-requires
     cast-inputs
-    command-requires
-    switches-requires
-    bit-requires
-    limit-set-requires
     word-requires-2
     control-word-requires
     signed-requires
+    switches-requires
+    bit-requires
     bit-requires-2
+    limit-set-requires
     word-requires-3
+    command-requires
     returns)

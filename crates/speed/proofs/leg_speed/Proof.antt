@@ -1,4 +1,4 @@
--- `speed::leg_speed` meets its contract.
+-- `speed::leg_speed` meets its contract: each branch settles the test of the digit's speed.
 -- Assumes nothing.
 use mir.Facts.{toZ-ofZ}
 use mir.Syntax.{w32}
@@ -7,6 +7,12 @@ use borrow.Author.Needs.{needs}
 use Rattle.speed.proofs.leg_speed.Statement.{statement}
 use Rattle.speed.proofs.leg_speed.Tie as tie
 
+is-forward-requires : tie.Need-is-forward-requires
+is-forward-requires c κs = search needs
+
+is-fast-requires : tie.Need-is-fast-requires
+is-fast-requires c κs = search needs
+
 signed-requires : tie.Need-signed-requires
 signed-requires c κs = search needs
 
@@ -14,10 +20,18 @@ signed-requires-2 : tie.Need-signed-requires-2
 signed-requires-2 c κs = search needs
 
 returns : tie.Need-returns
-returns c = let r : SFits w32 (c .signed .result) = search needs in rw (toZ-ofZ r, c .signed .ensures, c .before .if1 .taken)
+returns c =
+    let f = c .before .before in
+    let r : SFits w32 (c .signed .result) = search needs in
+    rw (toZ-ofZ r, c .signed .ensures, ← f .before .is-forward .ensures, ← f .is-fast .ensures, c .before .if1 .taken)
 
 returns-2 : tie.Need-returns-2
-returns-2 c = let r : SFits w32 (c .signed2 .result) = search needs in rw (toZ-ofZ r, c .signed2 .ensures, c .before .if1 .left)
+returns-2 c =
+    let f = c .before .before in
+    let r : SFits w32 (c .signed2 .result) = search needs in
+    rw (toZ-ofZ r, c .signed2 .ensures, ← f .before .is-forward .ensures, ← f .is-fast .ensures, c .before .if1 .left)
 
 pub leg-speed-spec : {M : Type 1} → statement M
-leg-speed-spec = tie.close (tie.spec signed-requires signed-requires-2 returns returns-2)
+leg-speed-spec =
+    tie.close
+    (tie.spec is-forward-requires is-fast-requires signed-requires signed-requires-2 returns returns-2)

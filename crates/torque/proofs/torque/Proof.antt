@@ -1,4 +1,4 @@
--- `torque::torque` meets its contract.
+-- `torque::torque` meets its contract: on, the demand is held within the chosen bounds; off, it is 0.
 -- Assumes nothing.
 use mir.Facts.{toZ-ofZ}
 use mir.Syntax.{w32}
@@ -17,11 +17,11 @@ held-requires c κs = search needs
 returns : tie.Need-returns
 unfolding torqueOf
 returns c =
-    let b = c .before .before .before .before in
+    let b = c .before .before .before in
     let r : SFits w32 (c .held .result) = search needs in
     let l : SFits w32 (b .chosen-bounds .result .low) = search needs in
     let h : SFits w32 (b .chosen-bounds .result .high) = search needs in
-    rw (toZ-ofZ r, c .held .ensures, toZ-ofZ l, toZ-ofZ h, b .chosen-bounds .ensures, c .before .if1 .taken)
+    rw (toZ-ofZ r, c .held .ensures, toZ-ofZ l, toZ-ofZ h, b .chosen-bounds .ensures, b .before .if1 .taken)
 
 returns-2 : tie.Need-returns-2
 unfolding torqueOf

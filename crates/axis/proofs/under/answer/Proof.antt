@@ -1,6 +1,8 @@
 -- `axis::under::answer` meets its contract.
 -- Assumes nothing.
-use mathlib.Core.Path.{_∙_}
+use mathlib.Core.Path.{ap, _∙_}
+use Rattle.legs.specs.declared.events.Switches.{Switches}
+use Rattle.status.specs.Statusword.{limitedOf}
 use Rattle.patterns.proofs.Numbers.{read32}
 use Rattle.cells.specs.Cells.{settingsIn, motionIn}
 use Rattle.cells.specs.Writes.{motionOf}
@@ -8,9 +10,6 @@ use Rattle.axis.proofs.Branches.{answered}
 use borrow.Author.Needs.{needs}
 use Rattle.axis.proofs.under.answer.Statement.{statement}
 use Rattle.axis.proofs.under.answer.Tie as tie
-
-mode-requires : tie.Need-mode-requires
-mode-requires c κs = search needs
 
 is-matched-requires : tie.Need-is-matched-requires
 is-matched-requires c κs = search needs
@@ -23,12 +22,6 @@ command-target-requires c κs = search needs
 
 place-in-requires : tie.Need-place-in-requires
 place-in-requires c κs = search needs
-
-is-running-requires : tie.Need-is-running-requires
-is-running-requires c κs = search needs
-
-has-failed-requires : tie.Need-has-failed-requires
-has-failed-requires c κs = search needs
 
 following-requires : tie.Need-following-requires
 following-requires c κs = search needs
@@ -48,23 +41,25 @@ bit-requires c κs = search needs
 speed-in-requires : tie.Need-speed-in-requires
 speed-in-requires c κs = search needs
 
-statusword-requires : tie.Need-statusword-requires
-statusword-requires c κs = search needs
-
 number-requires : tie.Need-number-requires
 number-requires c κs = search needs
 
+statusword-requires : tie.Need-statusword-requires
+statusword-requires c κs = search needs
+
 returns : tie.Need-returns
 returns c =
-    let n = c .before in
-    let sp = n .before .before in
+    let sw = c .before in
+    let n = sw .before in
+    let sp = n .before in
     let tq = sp .before .before in
     let li = tq .before .before in
     let fo = li .before in
-    let pl = fo .before .before .before in
+    let pl = fo .before in
     let tg = pl .before .before .before in
     let mt = tg .before .before in
-    let b = mt .before .before .before .args in
+    let s = mt .before in
+    let b = s .args in
     let l = b .axis .now in
     let p = pl .place-in in
     answered
@@ -73,15 +68,13 @@ returns c =
     (motionIn l)
     (motionOf (b .m))
     (b .demand)
-    (mt .before .mode .ensures)
+    (s .pre .1)
     (mt .is-matched .ensures)
     (tg .before .is-homed .ensures)
     (tg .command-target .ensures)
-    (fo .before .before .is-running .ensures)
-    (fo .before .has-failed .ensures)
     (fo .following .ensures)
     (p .ensures .1)
-    (li .limited .ensures)
+    (li .limited .ensures ∙ ap (λ (x : Switches). limitedOf x (p .result .clamped)) (s .pre .0))
     (tq .before .is-live .ensures)
     (read32 (tq .torque-in .result) (tq .torque-in .ok) ∙ tq .torque-in .ensures)
     (sp .before .bit .ensures)
@@ -89,26 +82,23 @@ returns c =
     (read32 (p .result .position) (c .struct-told3 .given .0 .1)
     ∙ p .ensures .0
     ∙ rw (read32 (b .m .home) (pl .before .before .struct-told .given .1 .1 .1 .1 .1 .1 .0 .1), read32 (b .t .position) (pl .before .struct-told2 .given .1 .1 .0 .1)))
-    (n .before .statusword .ensures)
+    (sw .statusword .ensures)
     (read32 (n .number .result) (n .number .ok) ∙ n .number .ensures)
 
 pub answer-spec : {M : Type 1} → statement M
 answer-spec =
     tie.close
     (tie.spec
-    mode-requires
     is-matched-requires
     is-homed-requires
     command-target-requires
     place-in-requires
-    is-running-requires
-    has-failed-requires
     following-requires
     limited-requires
     is-live-requires
     torque-in-requires
     bit-requires
     speed-in-requires
-    statusword-requires
     number-requires
+    statusword-requires
     returns)

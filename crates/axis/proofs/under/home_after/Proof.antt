@@ -4,6 +4,8 @@ use Prim.Native.Nat.{ℕ}
 use mathlib.Core.Path.{ap, _∙_}
 use Rattle.control.specs.Control.{rises}
 use Rattle.patterns.proofs.Numbers.{read32}
+use Rattle.cells.specs.Cells.{motionIn}
+use Rattle.axis.proofs.Branches.{on}
 use borrow.Author.Needs.{needs}
 use Rattle.axis.proofs.under.home_after.Statement.{statement}
 use Rattle.axis.proofs.under.home_after.Tie as tie
@@ -39,7 +41,7 @@ returns c =
     let rising = r .rising .ensures ∙ ap (λ (n : ℕ). rises n (b .t .control) 4) (r .before .control .ensures) in
     read32 (c .home-after .result) (c .home-after .ok)
     ∙ c .home-after .ensures
-    ∙ rw (read32 (h .home .result) (h .home .ok), h .home .ensures, rising, w .is-homed .ensures, w .before .phase .ensures, t .before .is-homed2 .ensures, read32 (b .t .position) (t .struct-told .given .1 .1 .0 .1))
+    ∙ rw (read32 (h .home .result) (h .home .ok), h .home .ensures, rising, w .is-homed .ensures, w .before .phase .ensures, t .before .is-homed2 .ensures, read32 (b .t .position) (t .struct-told .given .1 .1 .0 .1), on (rises (motionIn (b .axis .now) .control) (b .t .control) 4))
 
 pub home-after-spec : {M : Type 1} → statement M
 home-after-spec =

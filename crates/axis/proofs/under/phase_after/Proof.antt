@@ -2,21 +2,16 @@
 -- Assumes nothing.
 use Prim.Native.Nat.{ℕ}
 use mathlib.Core.Path.{sym, ap, ap₂, _∙_}
-use lib.IntN.{ℤ}
-use Rattle.counts.specs.Bit.{bitOf}
+use mathlib.Core.Bool.{true}
 use Rattle.control.specs.Control.{rises}
 use Rattle.homing.specs.Places.{startOf}
 use Rattle.legs.specs.declared.events.Switches.{Switches}
 use Rattle.ticks.specs.Rules.{viewWith}
-use Rattle.patterns.proofs.Numbers.{read32}
 use Rattle.cells.specs.Cells.{settingsIn, motionIn}
-use Rattle.axis.proofs.Branches.{starts, steps, off, stops}
+use Rattle.axis.proofs.Branches.{bits-of-tick, starts, steps}
 use borrow.Author.Needs.{needs}
 use Rattle.axis.proofs.under.phase_after.Statement.{statement}
 use Rattle.axis.proofs.under.phase_after.Tie as tie
-
-phase-requires : tie.Need-phase-requires
-phase-requires c κs = search needs
 
 method-requires : tie.Need-method-requires
 method-requires c κs = search needs
@@ -27,72 +22,64 @@ control-requires c κs = search needs
 rising-requires : tie.Need-rising-requires
 rising-requires c κs = search needs
 
+home-on-requires : tie.Need-home-on-requires
+home-on-requires c κs = search needs
+
 start-requires : tie.Need-start-requires
 start-requires c κs = search needs
 
-switches-requires : tie.Need-switches-requires
-switches-requires c κs = search needs
+phase-requires : tie.Need-phase-requires
+phase-requires c κs = search needs
 
-position-requires : tie.Need-position-requires
-position-requires c κs = search needs
-
-view-requires : tie.Need-view-requires
-view-requires c κs = search needs
+seen-requires : tie.Need-seen-requires
+seen-requires c κs = search needs
 
 step-requires : tie.Need-step-requires
 step-requires c κs = search needs
 
-stop-requires : tie.Need-stop-requires
-stop-requires c κs = search needs
-
 returns : tie.Need-returns
 returns c =
-    let r = c .before .before .before in
+    let h = c .before in
+    let i = h .before in
+    let r = i .before in
     let k = r .before in
-    let m = k .before .before in
-    let b = m .before .before .args in
+    let m = k .before in
+    let b = m .before .args in
     let l = b .axis .now in
     let a = motionIn l in
-    let rising = sym (r .rising .ensures ∙ ap (λ (n : ℕ). rises n (b .t .control) 4) (k .control .ensures)) ∙ c .before .before .if2 .taken in
-    c .start .ensures ∙ ap (λ (n : ℕ). startOf n (b .t .switches .home)) (m .method .ensures) ∙ starts (a .phase) (settingsIn l .method) (viewWith (a .switches) (a .position) (b .t) (b .on)) (rises (a .control) (b .t .control) 4) (b .on) rising (k .before .if1 .taken)
+    let rising = sym (r .rising .ensures ∙ ap (λ (n : ℕ). rises n (b .t .control) 4) (k .control .ensures)) ∙ i .if1 .taken in
+    let home = h .home-on .ensures ∙ ap (λ (s : Switches). s .home) (bits-of-tick (b .t) (b .switches) (m .before .pre)) in
+    c .start .ensures
+    ∙ ap₂ startOf (m .method .ensures) home
+    ∙ starts (a .phase) (settingsIn l .method) (viewWith (a .switches) (a .position) (b .t) true) (rises (a .control) (b .t .control) 4) rising
 
 returns-2 : tie.Need-returns-2
 returns-2 c =
-    let p = c .before .before in
-    let w = p .before in
-    let r = w .before .before in
+    let s = c .before in
+    let p = s .before in
+    let i = p .before in
+    let r = i .before in
     let k = r .before in
-    let m = k .before .before in
-    let b = m .before .before .args in
+    let m = k .before in
+    let b = m .before .args in
     let l = b .axis .now in
     let a = motionIn l in
-    let rising = sym (r .rising .ensures ∙ ap (λ (n : ℕ). rises n (b .t .control) 4) (k .control .ensures)) ∙ w .before .if2 .left in
-    let v = c .before .view .ensures ∙ ap₂ (λ (s : Switches) (z : ℤ). viewWith s z (b .t) (b .on)) (w .switches .ensures) (read32 (p .position .result) (p .position .ok) ∙ p .position .ensures) in
-    c .step .ensures ∙ rw (m .before .phase .ensures, m .method .ensures, v) (steps (a .phase) (settingsIn l .method) (viewWith (a .switches) (a .position) (b .t) (b .on)) (rises (a .control) (b .t .control) 4) (b .on) rising)
-
-returns-3 : tie.Need-returns-3
-returns-3 c =
-    let m = c .before .before in
-    let b = m .before .before .args in
-    let l = b .axis .now in
-    let a = motionIn l in
-    let on = c .before .if1 .left in
-    c .stop .ensures ∙ rw (m .before .phase .ensures, m .method .ensures) (stops (a .phase) (settingsIn l .method) (viewWith (a .switches) (a .position) (b .t) (b .on)) (rises (a .control) (b .t .control) 4) (b .on) on (off (bitOf (b .t .control) 4) (b .on) on))
+    let rising = sym (r .rising .ensures ∙ ap (λ (n : ℕ). rises n (b .t .control) 4) (k .control .ensures)) ∙ i .if1 .left in
+    c .step .ensures
+    ∙ rw (p .phase .ensures, m .method .ensures, s .seen .ensures)
+    (steps (a .phase) (settingsIn l .method) (viewWith (a .switches) (a .position) (b .t) true) (rises (a .control) (b .t .control) 4) rising)
 
 pub phase-after-spec : {M : Type 1} → statement M
 phase-after-spec =
     tie.close
     (tie.spec
-    phase-requires
     method-requires
     control-requires
     rising-requires
+    home-on-requires
     start-requires
-    switches-requires
-    position-requires
-    view-requires
+    phase-requires
+    seen-requires
     step-requires
-    stop-requires
     returns
-    returns-2
-    returns-3)
+    returns-2)

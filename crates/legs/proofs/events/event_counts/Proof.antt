@@ -1,19 +1,26 @@
--- `legs::events::event_counts` meets its contract: its parts are the definition's.
+-- `legs::events::event_counts` meets its contract: its parts are the definition's, of the leg in the digit.
 -- Assumes nothing.
-use Rattle.legs.specs.Events.{eventCounts}
 use borrow.Author.Needs.{needs}
+use Rattle.legs.specs.Events.{viewOf}
+use Rattle.legs.proofs.Digit.{event-test}
 use Rattle.legs.proofs.events.event_counts.Statement.{statement}
 use Rattle.legs.proofs.events.event_counts.Tie as tie
 
-edge-seen-requires : tie.Need-edge-seen-requires
-edge-seen-requires c κs = search needs
+is-forward-requires : tie.Need-is-forward-requires
+is-forward-requires c κs = search needs
 
 along-leg-requires : tie.Need-along-leg-requires
 along-leg-requires c κs = search needs
 
+edge-seen-requires : tie.Need-edge-seen-requires
+edge-seen-requires c κs = search needs
+
 returns : tie.Need-returns
-unfolding eventCounts
-returns c = let moved = c .before .before in rw (moved .along-leg .ensures, moved .before .edge-seen .ensures)
+returns c =
+    let a = c .before .before in
+    let x = a .before .before .args in
+    rw (c .before .edge-seen .ensures, a .along-leg .ensures, a .before .is-forward .ensures) (event-test (x .leg) (viewOf (x .seen)))
 
 pub event-counts-spec : {M : Type 1} → statement M
-event-counts-spec = tie.close (tie.spec edge-seen-requires along-leg-requires returns)
+event-counts-spec =
+    tie.close (tie.spec is-forward-requires along-leg-requires edge-seen-requires returns)

@@ -1,13 +1,11 @@
--- `words::decoder::position` meets its contract: from 2 ^ 27 on, 2 ^ 28 less.
+-- `words::decoder::position` meets its contract: the two shifts leave the low 28 bits, read as signed.
 -- Assumes nothing.
-use mathlib.Core.Path.{sym, _∙_}
-use Prim.Native.Nat.{_%_, _^_}
-use native.Mathlib.Omega.{arith}
-use borrow.Author.Tests.{lt-ltb}
+use mathlib.Core.Path.{_∙_}
 use mir.Facts.{toZ-ofZ}
-use mir.Syntax.{w32}
-use mir.ValLaws.{toZ-pos}
-use Rattle.words.proofs.Bits.{signed-low, signed-high}
+use mir.ValLaws.{fits-wrap}
+use Rattle.counts.proofs.Integers.{widen}
+use Rattle.words.proofs.Bits.{signed-ok, position-fits}
+use Rattle.words.proofs.Shifts.{shifted, shifted-fits}
 use borrow.Author.Needs.{needs}
 use Rattle.words.proofs.decoder.position.Statement.{statement}
 use Rattle.words.proofs.decoder.position.Tie as tie
@@ -16,18 +14,12 @@ cast-result : tie.Need-cast-result
 cast-result c = search needs
 
 cast-result-2 : tie.Need-cast-result-2
-cast-result-2 c = search needs
-
-sub-result : tie.Need-sub-result
-sub-result c = let v = c .before .args .value % 2 ^ 28 in rw (toZ-pos w32 v (omega arith), lt-ltb v (2 ^ 28) (omega arith)) (omega arith)
+cast-result-2 c = search (shifted-fits, fits-wrap, needs)
 
 returns : tie.Need-returns
-returns c = let v = c .before .args .value % 2 ^ 28 in toZ-pos w32 v (omega arith) ∙ sym (signed-low v (c .if1 .taken))
-
-returns-2 : tie.Need-returns-2
-returns-2 c =
-    let v = c .before .args .value % 2 ^ 28 in
-    rw (toZ-ofZ (sub-result c), toZ-pos w32 v (omega arith), lt-ltb v (2 ^ 28) (omega arith), signed-high v (c .if1 .left) (omega arith))
+returns c =
+    let v = c .args .value in
+    toZ-ofZ (cast-result-2 c) ∙ rw (shifted v) (toZ-ofZ (widen (position-fits _ (signed-ok v))))
 
 pub position-spec : {M : Type 1} → statement M
-position-spec = tie.close (tie.spec cast-result cast-result-2 sub-result returns returns-2)
+position-spec = tie.close (tie.spec cast-result cast-result-2 returns)
