@@ -18,7 +18,7 @@ use Rattle.modes.specs.declared.Mode.{Mode}
 use Rattle.modes.specs.Modes.{modeNumber, matchedOf}
 use Rattle.commands.specs.declared.Demand.{Demand}
 use Rattle.commands.specs.Commands.{modeOf, wholeDemand}
-use Rattle.homing.specs.Phase.{Phase, Idle, Running, Homed, Failed, homedIn, runningIn, failedIn}
+use Rattle.homing.specs.Phase.{Phase, Idle, Running, Homed, Failed, homedIn, runningIn}
 use Rattle.homing.specs.Places.{startOf, stepOf, stoppedAt, stoppedOf}
 use Rattle.homing.proofs.Stopped.{stopped}
 use Rattle.legs.specs.Found.{Found}

@@ -1,6 +1,6 @@
 -- `axis::finish` meets its contract.
 -- Assumes nothing.
-use mathlib.Core.Path.{sym, ap₂, _∙_}
+use mathlib.Core.Path.{_∙_}
 use Rattle.axis.proofs.Taking.{complete-end, refused-end}
 use borrow.Author.Needs.{needs}
 use Rattle.axis.proofs.finish.Statement.{statement}

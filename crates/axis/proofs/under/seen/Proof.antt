@@ -1,9 +1,6 @@
 -- `axis::under::seen` meets its contract.
 -- Assumes nothing.
-use mathlib.Core.Path.{ap, _∙_}
-use lib.IntN.{ℤ, _-ℤ_}
-use Rattle.counts.specs.Wrap.{wrapped}
-use Rattle.counts.specs.Movement.{movementOf}
+use mathlib.Core.Path.{_∙_}
 use Rattle.patterns.proofs.Numbers.{read32}
 use Rattle.cells.specs.Cells.{motionIn}
 use Rattle.axis.proofs.Branches.{bits-of-tick, seen-as}
