@@ -55,7 +55,7 @@ pub record InputsKept (l m : List ℕ) : Type 0 where
   pub before : take 3 (drop 29 m) ≡ take 3 (drop 29 l)
   pub after : drop 33 m ≡ drop 33 l
 
--- the data of fourteen settings words, as far as they have come
+-- the words of the pending values as they stand; all of them have come where an end word is due
 abbrev pub valuesIn : List ℕ → List ℕ
 valuesIn l = cellsFrom 15 14 l
 

@@ -154,7 +154,7 @@ fn values(axis: &Lent) -> [u32; 14]
     ]
 }
 
-// The settings of the values that are pending.
+// The settings of the pending values, where all have come.
 pub fn pending_settings(axis: &Lent) -> Settings
     ensures { λ r. ⌜ r ≡ settingsOf (valuesIn (now (axis .entry))) ⌝ }
 {
@@ -162,7 +162,7 @@ pub fn pending_settings(axis: &Lent) -> Settings
     decoder::decode(values)
 }
 
-// Their sum, modulo 2^28.
+// The sum of these values, modulo 2^28.
 pub fn checksum(axis: &Lent) -> u32
     ensures { λ r. ⌜ r ≡ checksumOf (valuesIn (now (axis .entry))) ⌝ }
 {

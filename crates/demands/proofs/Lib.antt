@@ -3,4 +3,3 @@ pub mod Matches
 pub mod Kept
 pub mod Promised
 pub mod Whole
-pub mod Numbers

@@ -1,8 +1,7 @@
--- Demands 1 and 2 over a whole axis. A tick neither reads nor writes the pending settings; a word that is not stored leaves none.
+-- Demands 1 and 2 over lists of events, by the laws of one word and one tick.
 -- Assumes nothing.
 use Prim.Native.Nat.{ℕ, _+_, _≤_}
 use mathlib.Core.Path.{_≡_, refl, sym, ap, _∙_, subst}
-use mathlib.Core.Bool.{Bool, true, false}
 use mathlib.Core.List.{List, [], _∷_, _++_, nil≢cons, head-eq-of-cons-eq, tail-eq-of-cons-eq}
 use native.Mathlib.Omega.{arith}
 use lib.ListN.{length}
@@ -13,82 +12,32 @@ use Rattle.checks.proofs.Numbers.{passes}
 use Rattle.words.specs.Word.{kindOf, wordOf as wordBy}
 use Rattle.words.specs.Encode.{valuesOf, checksumOf, wordsFrom, wordsOf}
 use Rattle.words.proofs.Widths.{Below, values-below}
-use Rattle.reader.specs.Pending.{Pending, Reading, Outcome, Refused, Stored, Complete}
+use Rattle.reader.specs.Pending.{Pending, Reading, Outcome, Stored, Complete}
 use Rattle.reader.specs.Read.{emptyPending, readOf, outcomeNumber}
-use Rattle.reader.proofs.Accepted.{AcceptedBy, ReadBy, refuses, accepted, begins, keeps, closes, read-by, accepted-by}
-use Rattle.states.specs.States.{liveOf}
+use Rattle.reader.proofs.Accepted.{AcceptedBy, begins, keeps, closes, accepted-by}
 use Rattle.roundtrip.specs.ReadInto.{ReadInto, last, more}
 use Rattle.roundtrip.specs.Stream.{pendingFrom}
 use Rattle.roundtrip.proofs.There.{there}
 use Rattle.roundtrip.proofs.Completed.{last-completes, snoc-inj}
-use Rattle.rules.specs.Axis.{Active, Nothing, Set, Axis, Worded}
+use Rattle.rules.specs.Axis.{Axis, Worded}
 use Rattle.ticks.specs.declared.Tick.{Tick}
 use Rattle.rules.specs.Word.{withPending, taken, wordOf}
-use Rattle.rules.specs.Tick.{tickUnder, tickOf}
-use Rattle.answers.specs.Answer.{answerIn, answeredIn}
+use Rattle.rules.specs.Tick.{tickOf}
+use Rattle.rules.proofs.Refused.{left-empty, refused-word, pending-unseen}
 use Rattle.demands.specs.Events.{Event, word, tick}
 use Rattle.demands.specs.Replies.{leftBy, axisFrom, repliesFrom}
-use Rattle.demands.specs.Whole.{Unseen, RefusedWords, RefusedTick, RefusedTicks, wordsIn, AllAccepted, activated, RoundTrip}
+use Rattle.demands.specs.Whole.{PendingUnseen, RefusedUnseen, wordsIn, AllAccepted, activated, RoundTrip}
 
--- ---- a refused word
+-- ---- no tick sees what is pending
 
--- a word that is not stored leaves nothing pending
-left-empty : (p : Pending) (w : ℕ) → (readOf p w .outcome ≡ Stored → ⊥) → readOf p w .pending ≡ emptyPending
-left-empty p w n = go (read-by p w)
-  where
-    go : ReadBy p w → readOf p w .pending ≡ emptyPending
-    go (refuses r e) = ap (λ (a : Reading). a .pending) e
-    go (accepted (closes d i l e)) = ap (λ (a : Reading). a .pending) e
-    go (accepted (begins i e)) = absurd (n (ap (λ (a : Reading). a .outcome) e))
-    go (accepted (keeps d z l i e)) = absurd (n (ap (λ (a : Reading). a .outcome) e))
+pub pending-unseen-from : PendingUnseen
+pending-unseen-from a p [] = refl
+pending-unseen-from a p (t ∷ ts) =
+    let e = pending-unseen a p t in
+    rw (e .left, e .answer, pending-unseen-from (tickOf a t .axis) p ts)
 
--- no tick sees what is pending
-tick-pending : (a : Axis) (p : Pending) (t : Tick)
-    → (tickOf (withPending a p) t .axis ≡ withPending (tickOf a t .axis) p) × (tickOf (withPending a p) t .answer ≡ tickOf a t .answer)
-unfolding tickOf
-tick-pending a p t = go (a .active)
-  where
-    go : (x : Active) → (tickUnder x (withPending a p) t .axis ≡ withPending (tickUnder x a t .axis) p) × (tickUnder x (withPending a p) t .answer ≡ tickUnder x a t .answer)
-    go Nothing = (refl, refl)
-    go (Set s) = (refl, refl)
-
-pub unseen-from : Unseen
-unseen-from a p [] = refl
-unseen-from a p (t ∷ ts) =
-    let e = tick-pending a p t in
-    rw (e .0, e .1, unseen-from (tickOf a t .axis) p ts)
-
-pub refused-word : RefusedWords
-unfolding wordOf
-refused-word a w n = record { left = left; unseen = λ ts. rw left (unseen-from a emptyPending ts) }
-  where
-    b : Axis
-    b = withPending a (readOf (a .pending) w .pending)
-
-    not-stored : readOf (a .pending) w .outcome ≡ Stored → ⊥
-    not-stored s = n (ap (λ (o : Outcome). verdictNumber (taken b o .verdict)) s)
-
-    kept : (o : Outcome) → (verdictNumber (taken b o .verdict) ≡ 0 → ⊥) → taken b o .axis ≡ b
-    kept (Refused x) q = refl
-    kept Stored q = refl
-    kept (Complete s) q = go (liveOf (a .motion .state)) refl
-      where
-        go : (l : Bool) → liveOf (a .motion .state) ≡ l → taken b (Complete s) .axis ≡ b
-        go true h = rw h
-        go false h = absurd (q (rw h))
-
-    left : wordOf a w .axis ≡ withPending a emptyPending
-    left = kept (readOf (a .pending) w .outcome) n ∙ ap (λ (p : Pending). withPending a p) (left-empty (a .pending) w not-stored)
-
--- ---- a refused tick
-
-pub refused-tick : RefusedTicks
-unfolding tickOf answeredIn answerIn
-refused-tick a t n = go (a .active) refl
-  where
-    go : (x : Active) → a .active ≡ x → RefusedTick a t
-    go Nothing e = record { left = rw e; answer = rw e }
-    go (Set s) e = absurd (n (rw e))
+pub refused-unseen : RefusedUnseen
+refused-unseen a w ts n = rw (refused-word a w n) (pending-unseen-from a emptyPending ts)
 
 -- ---- the words of acceptable settings, with ticks between
 
@@ -130,12 +79,7 @@ front-stored (more {p} {w = v} z r) (u ∷ us) w q n =
     (o, subst (λ (x : ℕ). AllStored (readOf p x .pending) us) h (front-stored r us w (tail-eq-of-cons-eq q) (n .1)))
 
 tick-keeps : (a : Axis) (t : Tick) → tickOf a t .axis .pending ≡ a .pending
-unfolding tickOf
-tick-keeps a t = go (a .active)
-  where
-    go : (x : Active) → tickUnder x a t .axis .pending ≡ a .pending
-    go Nothing = refl
-    go (Set s) = refl
+tick-keeps a t = ap (λ (b : Axis). b .pending) (pending-unseen a (a .pending) t .left)
 
 -- events whose words are all stored: the pending settings are those that the words leave, and every word is accepted
 fed : (a : Axis) (es : List Event) → AllStored (a .pending) (wordsIn es)

@@ -5,4 +5,3 @@ pub mod Known
 pub mod Demand
 pub mod Whole
 pub mod Examples
-pub mod Numbers

@@ -1,4 +1,4 @@
--- Demands 1 and 2, said of a whole axis: what a refused word and a refused tick leave, and that the words of acceptable settings activate
+-- Demands 1 and 2 over lists of events: no tick after a refused word tells that it came, and the words of acceptable settings activate
 -- them, whatever ticks fall between.
 -- Assumes nothing.
 use Prim.Native.Nat.{ℕ}
@@ -6,7 +6,6 @@ use mathlib.Core.Path.{_≡_}
 use mathlib.Core.Bool.{true, false}
 use mathlib.Core.List.{List, [], _∷_, _++_, map}
 use Rattle.settings.specs.declared.Settings.{Settings}
-use Rattle.settings.specs.declared.Refusal.the-variants.{NoSettings}
 use Rattle.settings.specs.Refusal.{verdictNumber}
 use Rattle.checks.specs.Check.{acceptable}
 use Rattle.words.specs.Encode.{wordsOf}
@@ -16,31 +15,19 @@ use Rattle.states.specs.States.{liveOf}
 use Rattle.ticks.specs.Motion.{idled}
 use Rattle.rules.specs.Axis.{Set, Axis}
 use Rattle.ticks.specs.declared.Tick.{Tick}
-use Rattle.answers.specs.Answer.{refusedAnswer}
 use Rattle.rules.specs.Word.{withPending, wordOf}
-use Rattle.rules.specs.Tick.{tickOf}
 use Rattle.demands.specs.Events.{Event, word, tick}
 use Rattle.demands.specs.Replies.{Reply, said, answered, axisFrom, repliesFrom}
 
 -- no tick sees what is pending: with other pending settings any ticks are answered the same
-abbrev pub Unseen : Type 0
-Unseen = (a : Axis) (p : Pending) (ts : List Tick) → repliesFrom (withPending a p) (map tick ts) ≡ repliesFrom a (map tick ts)
+abbrev pub PendingUnseen : Type 0
+PendingUnseen = (a : Axis) (p : Pending) (ts : List Tick) → repliesFrom (withPending a p) (map tick ts) ≡ repliesFrom a (map tick ts)
 
--- "A refused word empties the unfinished sheet and touches nothing else": any ticks after it are answered as if it had not come
-pub record RefusedWord (a : Axis) (w : ℕ) : Type 0 where
-  pub left : wordOf a w .axis ≡ withPending a emptyPending
-  pub unseen : (ts : List Tick) → repliesFrom (wordOf a w .axis) (map tick ts) ≡ repliesFrom a (map tick ts)
-
-abbrev pub RefusedWords : Type 0
-RefusedWords = (a : Axis) (w : ℕ) → (verdictNumber (wordOf a w .verdict) ≡ 0 → ⊥) → RefusedWord a w
-
--- "a refused tick changes nothing and commands zero torque": number 8, and every other field of the answer is 0
-pub record RefusedTick (a : Axis) (t : Tick) : Type 0 where
-  pub left : tickOf a t .axis ≡ a
-  pub answer : tickOf a t .answer ≡ refusedAnswer NoSettings
-
-abbrev pub RefusedTicks : Type 0
-RefusedTicks = (a : Axis) (t : Tick) → (tickOf a t .answer .number ≡ 0 → ⊥) → RefusedTick a t
+-- "A refused word … touches nothing else": any ticks after it are answered as if it had not come
+abbrev pub RefusedUnseen : Type 0
+RefusedUnseen =
+    (a : Axis) (w : ℕ) (ts : List Tick) → (verdictNumber (wordOf a w .verdict) ≡ 0 → ⊥)
+    → repliesFrom (wordOf a w .axis) (map tick ts) ≡ repliesFrom a (map tick ts)
 
 -- the words of a list of events, ticks aside
 abbrev pub wordsIn : List Event → List ℕ

@@ -10,7 +10,7 @@ use Rattle.answers.specs.declared.Answer.{Answer}
 use Rattle.axis.specs.Calls as axis
 use Rattle.records.specs.Words.{tickIn, answerWords}
 
--- `axis_fresh`: the words mean the fresh axis
+-- `axis_fresh`: the words are zeros, which mean the fresh axis
 abbrev pub FreshCall : List ℕ → Type 0
 FreshCall m = axis.FreshCall m
 

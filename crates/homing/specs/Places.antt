@@ -49,8 +49,8 @@ stepOf (Running place) method v = runningOf method place v
 stepOf Homed method v = Homed
 stepOf Failed method v = Failed
 
--- what a later tick that does not keep homing leaves: "A later tick with bit 4 clear, homing not matched or another state makes homing
--- idle."
+-- what `stepOf` comes to in a tick that does not keep homing (`Stopped`, `homing/proofs`): "A later tick with bit 4 clear, homing not matched
+-- or another state makes homing idle." A place with no leg fails, as it does in any tick.
 abbrev pub stoppedAt : Found → Phase
 stoppedAt (found.Leg l) = Idle
 stoppedAt found.Nothing = Failed

@@ -59,7 +59,7 @@ kept p kind x = record { count = kind + 1; values = set (p .values) kind x }
 unfoldable pub fieldOf : Pending → ℕ → ℕ → Reading
 fieldOf p kind x = cond (fieldOk kind x) (stored (kept p kind x)) (refused OutOfRange)
 
--- the settings' own verdict: 5, 6 or none
+-- by what the end word meets: 4, 5, 6 or nothing
 abbrev pub judged : Settings → Verdict → Reading
 judged s Accepted = complete s
 judged s (verdict.Refused r) = refused r

@@ -19,11 +19,11 @@ use Rattle.reader.specs.Cases as reader
 use Rattle.reader.proofs.Numbers.{numbers}
 use Rattle.reader.proofs.Accepted.{AcceptedBy, begins, keeps, closes, accepted-by}
 use Rattle.states.specs.States.{liveOf}
 use Rattle.rules.specs.Axis.{Active, Nothing, Set, Axis}
 use Rattle.rules.specs.Word.{withPending, taken, wordOf}
 use Rattle.rules.specs.Tick.{tickUnder, tickOf}
 use Rattle.answers.specs.Answer.{answerIn, answeredIn}
-use Rattle.demands.specs.Numbers.{liveTest, testsOf, WordNumbers, tickNumber, TickNumbers}
+use Rattle.rules.specs.Numbers.{liveTest, testsOf, WordNumbers, tickNumber, TickNumbers}
 
 -- ---- tests in order
 
