@@ -1,8 +1,8 @@
 -- A tick under settings, branch by branch: each comes to what the rule says of every tick.
 -- Assumes nothing.
 use Prim.Native.Nat.{ℕ}
-use mathlib.Core.Path.{_≡_, refl, sym, ap, _∙_}
-use mathlib.Core.Bool.{Bool, true, false, not, _&&_, true≢false}
+use mathlib.Core.Path.{_≡_, refl, sym, ap, ap₂, subst, _∙_}
+use mathlib.Core.Bool.{Bool, true, false, not, cond, _&&_, _||_, and-true, and-false, or-true, true≢false}
 use mathlib.Core.List.{List}
 use lib.Dec.{eqb}
 use lib.IntN.{ℤ, pos, _-ℤ_}
@@ -12,29 +12,31 @@ use Rattle.counts.specs.declared.Movement.{Movement}
 use Rattle.counts.specs.Movement.{movementOf}
 use Rattle.settings.specs.declared.Settings.{Settings}
 use Rattle.settings.specs.declared.Refusal.the-variants.{NoSettings}
-use Rattle.states.specs.declared.State.{State}
 use Rattle.states.specs.States.{liveOf}
-use Rattle.modes.specs.declared.Mode.{Mode}
-use Rattle.modes.specs.Modes.{modeNumber, matchedOf}
+use Rattle.control.specs.Control.{rises}
+use Rattle.modes.specs.Modes.{modeNumber}
 use Rattle.commands.specs.declared.Demand.{Demand}
-use Rattle.commands.specs.Commands.{modeOf, wholeDemand}
-use Rattle.homing.specs.Phase.{Phase, Idle, Running, Homed, Failed, homedIn, runningIn}
+use Rattle.commands.specs.Commands.{wholeDemand}
+use Rattle.homing.specs.Phase.{Phase, Idle, Running, Homed, Failed, phaseOf, homedIn, runningIn}
 use Rattle.homing.specs.Places.{startOf, stepOf, stoppedAt, stoppedOf}
+use Rattle.homing.specs.Moving.{runningLeg, movingLeg, Stands}
+use Rattle.homing.specs.declared.Stand.{Stand}
 use Rattle.homing.proofs.Stopped.{stopped}
 use Rattle.legs.specs.Found.{Found}
 use Rattle.legs.specs.Found as found
 use Rattle.legs.specs.declared.events.Switches.{Switches}
 use Rattle.legs.specs.Events.{View, switchesIn}
 use Rattle.legs.specs.Places.{legAt}
-use Rattle.speed.specs.Speed.{speedOf}
+use Rattle.legs.specs.Digits.{legInDigit}
+use Rattle.speed.specs.Speed.{foundSpeed, speedOf}
 use Rattle.torque.specs.Torque.{torqueOf}
 use Rattle.position.specs.declared.Followed.{Followed}
 use Rattle.position.specs.declared.Followed.the-variants.{Target, Nothing}
 use Rattle.position.specs.Position.{positionOf, clampedOf}
 use Rattle.status.specs.Statusword.{flagsIn, limitedOf, statuswordOf}
 use Rattle.ticks.specs.declared.Tick.{Tick}
-use Rattle.ticks.specs.Motion.{Motion}
-use Rattle.ticks.specs.Rules.{viewWith}
+use Rattle.ticks.specs.Motion.{Motion, phased, homeAt}
+use Rattle.ticks.specs.Rules.{matchedIn, viewWith}
 use Rattle.ticks.specs.Moment.{phaseAfter, homeAfter, targetOf, momentAt}
 use Rattle.answers.specs.declared.Answer.{Answer}
 use Rattle.answers.specs.Answer.{refusedAnswer, isFollowing, answerIn}
@@ -43,54 +45,124 @@ use Rattle.rules.specs.Axis as axis
 use Rattle.rules.specs.Tick.{tickOf}
 use Rattle.patterns.specs.Patterns.{wordAt, switchBits}
 use Rattle.patterns.proofs.Back.{bits-back}
-use Rattle.cells.specs.Cells.{settingsIn, activeIn, axisIn}
-use Rattle.axis.specs.Calls.{phaseIn, homeIn, settledIn, TickCall, Runs}
-
-pub on : (b : Bool) → b && true ≡ b
-on true = refl
-on false = refl
+use Rattle.cells.specs.Cells.{settingsIn, activeIn, motionIn, axisIn}
+use Rattle.cells.specs.Writes.{Moved}
+use Rattle.cells.proofs.Moved.{motion-moved, moved-again, unmoved}
+use Rattle.axis.specs.Calls.{phaseBy, homeBy, homedBy, Homes, arrived, answerBy, TickCall, Runs}
 
 -- the tick's switches, by their bits
 pub bits-of-tick : (t : Tick) (bits : ℕ) → bits ≡ switchBits (t .switches) → switchesIn bits ≡ t .switches
 bits-of-tick t bits e = rw e (bits-back (t .switches))
 
--- what homing sees, and what a tick leaves, value by value
+-- what homing sees, value by value
 pub seen-as : (t : Tick) (remembered : Switches) (position : ℤ) {kept halted : Bool} {movement : Movement} {before now : Switches} → kept ≡ bitOf (t .control) 4
     → halted ≡ bitOf (t .control) 8 → movement ≡ movementOf (wrapped (t .position -ℤ position)) → before ≡ remembered → now ≡ t .switches
     → _≡_ {A = View} (record { kept = kept; halted = halted; movement = movement; before = before; now = now }) (viewWith remembered position t true)
-seen-as t remembered position k h m b n = rw (k, h, m, b, n, on (bitOf (t .control) 4))
+seen-as t remembered position k h m b n = rw (k, h, m, b, n, and-true (bitOf (t .control) 4))
 
-pub settled : (l : List ℕ) (t : Tick) (homing : Bool) (state : State) (mode : Mode) (alarm : ℕ) {phase : Phase} {switches : Switches} {home position : ℤ}
-    → phase ≡ phaseIn l t homing → home ≡ homeIn l t homing phase → switches ≡ t .switches → position ≡ t .position
-    → _≡_ {A = Motion}
-    (record {
-      state = state;
-      mode = mode;
-      alarm = alarm;
-      phase = phase;
-      home = home;
-      control = t .control;
-      switches = switches;
-      position = position;
-    })
-    (settledIn l t homing state mode alarm)
-settled l t homing state mode alarm p h s e = rw (h, p, s, e)
+-- the phase is written, and home where that is homed
+module _ (l m : List ℕ) (p : Phase) (w : Moved l (phased (motionIn l) p) m) (position : ℤ) where
+  pub homed-there : (n : List ℕ) {x : ℤ} → homedIn p ≡ true → x ≡ position → Moved m (homeAt (motionIn m) x) n
+      → Moved l (arrived (motionIn l) p position) n
+  homed-there n {x} e q v =
+      let home : homeAt (motionIn m) x ≡ arrived (motionIn l) p position =
+      ap₂ homeAt (motion-moved w) q ∙ ap (λ (b : Bool). homeAt (phased (motionIn l) p) (cond b position (motionIn l .home))) (sym e) in
+      moved-again w (subst (λ (b : Motion). Moved m b n) home v)
 
--- a tick in which homing starts; a later one; and one in which homing is off
-pub starts : (p : Phase) (method : ℕ) (v : View) (rising : Bool) → rising ≡ true → startOf method (v .now .home) ≡ phaseAfter p method (rising && true) v
-starts p method v rising e = rw e
+  pub not-homed : homedIn p ≡ false → Moved l (arrived (motionIn l) p position) m
+  not-homed e =
+      subst (λ (b : Bool). Moved l (homeAt (phased (motionIn l) p) (cond b position (motionIn l .home))) m) (sym e) w
 
-pub steps : (p : Phase) (method : ℕ) (v : View) (rising : Bool) → rising ≡ false → stepOf p method v ≡ phaseAfter p method (rising && true) v
-steps p method v rising e = rw e
+-- what a start and what a later step stands in is the tick's
+same-stand : {method method2 : ℕ} {phase phase2 : Phase} {halted halted2 : Bool} {r : Stand} → method ≡ method2 → phase ≡ phase2 → halted ≡ halted2
+    → Stands method phase halted r → Stands method2 phase2 halted2 r
+same-stand e f g h = rw (← e, ← f, ← g) h
 
-pub off : (b : Bool) → b && false ≡ false
-off true = refl
-off false = refl
+module _ (l : List ℕ) (t : Tick) {method : ℕ} {r : Stand} (e : method ≡ settingsIn l .method) where
+  pub starts : {home halted : Bool} → let a = motionIn l in
+      rises (a .control) (t .control) 4 ≡ true → home ≡ t .switches .home → halted ≡ bitOf (t .control) 8
+      → Stands method (startOf method home) halted r → Stands (settingsIn l .method) (phaseBy (settingsIn l) a t true) (bitOf (t .control) 8) r
+  starts rising home halted =
+      let a = motionIn l in
+      let v = viewWith (a .switches) (a .position) t true in
+      let start = ap (λ (b : Bool). phaseAfter (a .phase) (settingsIn l .method) (b && true) v) (sym rising) in
+      same-stand e (ap₂ startOf e home ∙ start) halted
 
-pub stops : (p : Phase) (method : ℕ) (v : View) (rising : Bool) → v .kept ≡ false → stoppedOf p method ≡ phaseAfter p method (rising && false) v
-stops p method v rising k = rw (off rising) (sym (stopped p method v k))
+  pub steps : {phase : Phase} {v : View} → let a = motionIn l in
+      rises (a .control) (t .control) 4 ≡ false → phase ≡ a .phase
+      → v ≡ viewWith (a .switches) (a .position) t true → Stands method (stepOf phase method v) (v .halted) r
+      → Stands (settingsIn l .method) (phaseBy (settingsIn l) a t true) (bitOf (t .control) 8) r
+  steps {phase} {v} rising p w =
+      let a = motionIn l in
+      let step = ap (λ (b : Bool). phaseAfter (a .phase) (settingsIn l .method) (b && true) (viewWith (a .switches) (a .position) t true)) (sym rising) in
+      same-stand e (rw (p, e, w) step) (ap (λ (x : View). x .halted) w)
 
--- what stops is homed exactly where it was, so home stays
+-- A tick in which homing is on: what a start or a step stands in is the tick's, and home is the tick's position where the axis becomes
+-- homed. fresh: it starts, or was not homed before.
+pub arrives : (l : List ℕ) (t : Tick) (m : List ℕ) (v : ℤ) (r : Stand) {x : ℤ} → let a = motionIn l in
+    let s = settingsIn l in
+    Stands (s .method) (phaseBy s a t true) (bitOf (t .control) 8) r
+    → rises (a .control) (t .control) 4 && true || not (homedIn (a .phase)) ≡ true
+    → x ≡ t .position → Moved l (arrived a (phaseOf (r .phase)) x) m → v ≡ foundSpeed s (legInDigit (r .leg)) → Homes l t true m v
+arrives l t m v r {x} stands fresh position moved speed =
+    let s = settingsIn l in
+    let a = motionIn l in
+    let p = phaseBy s a t true in
+    let home : homeBy a t true p ≡ cond (homedIn p) (t .position) (a .home) =
+    ap (λ (b : Bool). cond (homedIn p && b) (t .position) (a .home)) fresh ∙ ap (λ (b : Bool). cond b (t .position) (a .home)) (and-true (homedIn p)) in
+    let after : arrived a (phaseOf (r .phase)) x ≡ homedBy s a t true = ap₂ (arrived a) (stands .phase) position ∙ ap (homeAt (phased a p)) (sym home) in
+    record { moved = subst (λ (x : Motion). Moved l x m) after moved; speed = speed ∙ ap (foundSpeed s) (stands .leg) }
+
+-- a start is fresh, and so is a step from a running leg
+pub fresh-start : {rising : Bool} (homed : Bool) → rising ≡ true → rising && true || not homed ≡ true
+fresh-start homed e = rw e
+
+pub fresh-step : (rising : Bool) (p : Phase) → runningIn p ≡ true → rising && true || not (homedIn p) ≡ true
+fresh-step rising Idle e = absurd (true≢false (sym e))
+fresh-step rising (Running place) e = or-true (rising && true)
+fresh-step rising Homed e = absurd (true≢false (sym e))
+fresh-step rising Failed e = absurd (true≢false (sym e))
+
+-- where no leg runs and none starts, homing stays as it is
+stays : (p : Phase) (method : ℕ) (v : View) → runningIn p ≡ false → stepOf p method v ≡ p
+stays Idle method v e = refl
+stays (Running place) method v e = absurd (true≢false e)
+stays Homed method v e = refl
+stays Failed method v e = refl
+
+unmoving : (p : Phase) (method : ℕ) (halted : Bool) → runningIn p ≡ false → movingLeg method p halted ≡ found.Nothing
+unmoving p method true e = refl
+unmoving Idle method false e = refl
+unmoving (Running place) method false e = absurd (true≢false e)
+unmoving Homed method false e = refl
+unmoving Failed method false e = refl
+
+neither : (b : Bool) → b && not b ≡ false
+neither true = refl
+neither false = refl
+
+pub rests : (l : List ℕ) (t : Tick) → let a = motionIn l in
+    rises (a .control) (t .control) 4 ≡ false → runningIn (a .phase) ≡ false → Homes l t true l (pos 0)
+rests l t e r =
+    let s = settingsIn l in
+    let a = motionIn l in
+    let v = viewWith (a .switches) (a .position) t true in
+    let phase : phaseBy s a t true ≡ a .phase =
+    ap (λ (b : Bool). phaseAfter (a .phase) (s .method) (b && true) v) e ∙ stays (a .phase) (s .method) v r in
+    let home : homeBy a t true (a .phase) ≡ a .home =
+    ap (λ (b : Bool). homeAfter (a .home) (b && true) (homedIn (a .phase)) (homedIn (a .phase)) (t .position)) e
+    ∙ ap (λ (b : Bool). cond b (t .position) (a .home)) (neither (homedIn (a .phase))) in
+    let after : a ≡ homedBy s a t true =
+    sym (ap (λ (p : Phase). homeAt (phased a p) (homeBy a t true p)) phase ∙ ap (homeAt a) home) in
+    record {
+      moved = subst (λ (x : Motion). Moved l x l) after (unmoved l);
+      speed =
+          sym
+          (ap (λ (p : Phase). speedOf s p (bitOf (t .control) 8)) phase
+          ∙ ap (foundSpeed s) (unmoving (a .phase) (s .method) (bitOf (t .control) 8) r));
+    }
+
+-- A tick in which homing is off: it stops. What stops is homed exactly where it was, so home stays, and nothing moves.
 stopped-homed : (p : Phase) (method : ℕ) → homedIn (stoppedOf p method) && not (homedIn p) ≡ false
 stopped-homed Idle method = refl
 stopped-homed (Running place) method = go (legAt method place)
@@ -101,38 +173,64 @@ stopped-homed (Running place) method = go (legAt method place)
 stopped-homed Homed method = refl
 stopped-homed Failed method = refl
 
-pub home-stays : (home position : ℤ) (p : Phase) (method : ℕ) (rising : Bool)
-    → home ≡ homeAfter home (rising && false) (homedIn p) (homedIn (stoppedOf p method)) position
-home-stays home position p method rising = rw (off rising, stopped-homed p method)
+stopped-moves : (p : Phase) (method : ℕ) (halted : Bool) → movingLeg method (stoppedOf p method) halted ≡ found.Nothing
+stopped-moves p method true = refl
+stopped-moves Idle method false = refl
+stopped-moves (Running place) method false = go (legAt method place)
+  where
+    go : (f : Found) → runningLeg method (stoppedAt f) ≡ found.Nothing
+    go found.Nothing = refl
+    go (found.Leg l) = refl
+stopped-moves Homed method false = refl
+stopped-moves Failed method false = refl
 
--- where no leg runs the speed is 0, and where no target is followed the position is the actual one
-pub at-rest : (s : Settings) (p : Phase) (halted : Bool) → runningIn p ≡ false → pos 0 ≡ speedOf s p halted
-at-rest s Idle true e = refl
-at-rest s Idle false e = refl
-at-rest s (Running place) halted e = absurd (true≢false e)
-at-rest s Homed true e = refl
-at-rest s Homed false e = refl
-at-rest s Failed true e = refl
-at-rest s Failed false e = refl
+pub stops : (l : List ℕ) (t : Tick) (m : List ℕ) → let a = motionIn l in
+    Moved l (phased a (stoppedOf (a .phase) (settingsIn l .method))) m → Homes l t false m (pos 0)
+stops l t m moved =
+    let s = settingsIn l in
+    let a = motionIn l in
+    let rising = rises (a .control) (t .control) 4 in
+    let v = viewWith (a .switches) (a .position) t false in
+    let q = stoppedOf (a .phase) (s .method) in
+    let phase : phaseBy s a t false ≡ q =
+    ap (λ (b : Bool). phaseAfter (a .phase) (s .method) b v) (and-false rising) ∙ stopped (a .phase) (s .method) v (and-false (bitOf (t .control) 4)) in
+    let home : homeBy a t false q ≡ a .home =
+    ap (λ (b : Bool). homeAfter (a .home) b (homedIn (a .phase)) (homedIn q) (t .position)) (and-false rising)
+    ∙ ap (λ (b : Bool). cond b (t .position) (a .home)) (stopped-homed (a .phase) (s .method)) in
+    let after : phased a q ≡ homedBy s a t false =
+    sym (ap (λ (p : Phase). homeAt (phased a p) (homeBy a t false p)) phase ∙ ap (homeAt (phased a q)) home) in
+    record {
+      moved = subst (λ (x : Motion). Moved l x m) after moved;
+      speed =
+          sym
+          (ap (λ (p : Phase). speedOf s p (bitOf (t .control) 8)) phase
+          ∙ ap (foundSpeed s) (stopped-moves (a .phase) (s .method) (bitOf (t .control) 8)));
+    }
 
+-- where no target is followed the position is the actual one
 pub unfollowed : (s : Settings) (home : ℤ) (f : Followed) (actual : ℤ) → isFollowing f ≡ false
     → (actual ≡ positionOf s home f actual) × (false ≡ clampedOf s f)
 unfollowed s home (Target target) actual e = absurd (true≢false e)
 unfollowed s home Nothing actual e = (refl, refl)
 
--- the answer, put together: if each value is made of the earlier ones as its rule says, it is the tick's
-pub answered : (s : Settings) (t : Tick) (before after : Motion) (d : Demand) {wanted : Mode} {matched homed follows clamped limited live halted : Bool}
-    {followed : Followed} {torque speed position mode : ℤ} {status : ℕ} → wanted ≡ modeOf (t .command) → matched ≡ matchedOf wanted (after .mode)
-    → homed ≡ homedIn (after .phase) → followed ≡ targetOf (t .command) matched (after .state) homed → follows ≡ isFollowing followed
-    → clamped ≡ clampedOf s followed → limited ≡ limitedOf (t .switches) clamped → live ≡ liveOf (after .state)
-    → torque ≡ torqueOf s (t .set) (live && matched) (wholeDemand d) → halted ≡ bitOf (t .control) 8 → speed ≡ speedOf s (after .phase) halted
-    → position ≡ positionOf s (after .home) followed (t .position)
-    → status ≡ statuswordOf (after .state) (after .mode) (flagsIn (after .phase) follows limited) → mode ≡ modeNumber (after .mode)
-    → _≡_ {A = Answer} (record { number = 0; torque = torque; speed = speed; position = position; status = status; mode = mode; alarm = after .alarm })
-    (answerIn s t (momentAt before t after d))
+-- the answer, put together of values that are made of the earlier ones as their rules say
+pub handed : (s : Settings) (t : Tick) (a : Motion) (torque speed : ℤ) {phase : Phase} {homed follows clamped limited : Bool} {followed : Followed}
+    {home position mode : ℤ} {status : ℕ} → phase ≡ a .phase → homed ≡ homedIn phase
+    → followed ≡ targetOf (t .command) (matchedIn t (a .mode)) (a .state) homed → home ≡ a .home
+    → position ≡ positionOf s home followed (t .position) → clamped ≡ clampedOf s followed → follows ≡ isFollowing followed
+    → limited ≡ limitedOf (t .switches) clamped → mode ≡ modeNumber (a .mode)
+    → status ≡ statuswordOf (a .state) (a .mode) (flagsIn phase follows limited)
+    → _≡_ {A = Answer} (record { number = 0; torque = torque; speed = speed; position = position; status = status; mode = mode; alarm = a .alarm })
+    (answerBy s t a torque speed)
+handed s t a torque speed phase homed followed home position clamped follows limited mode status =
+    rw (position, status, mode, limited, clamped, follows, followed, homed, home, phase)
+
+-- with the torque and the speed that the rules say, the answer is the tick's
+pub answered : (s : Settings) (t : Tick) (before after : Motion) (d : Demand) {torque speed : ℤ}
+    → torque ≡ torqueOf s (t .set) (liveOf (after .state) && matchedIn t (after .mode)) (wholeDemand d)
+    → speed ≡ speedOf s (after .phase) (bitOf (t .control) 8) → answerBy s t after torque speed ≡ answerIn s t (momentAt before t after d)
 unfolding answerIn
-answered s t before after d wanted matched homed followed follows clamped limited live torque halted speed position status mode =
-    rw (torque, speed, position, status, mode, limited, clamped, follows, followed, halted, live, homed, matched, wanted)
+answered s t before after d torque speed = rw (torque, speed)
 
 nothing-set : {s : Settings} → axis.Nothing ≡ Set s → ⊥
 nothing-set {s} e = true≢false (ap isNothing e)

@@ -1,2 +1,3 @@
 pub mod Branches
 pub mod Taking
+pub mod Ticked

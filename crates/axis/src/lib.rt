@@ -79,11 +79,11 @@ pub fn word(axis: &mut Lent, word: u32) -> Verdict
     ensures { λ r. ⌜ WordCall (now (axis .entry)) word (now (axis .exit)) r ⌝ }
 {
     let kind = word / KIND;
-    let value = word % KIND;
     if kind == 0 {
-        return start(axis, value);
+        return start(axis, word % KIND);
     }
     if kind == reader::due_kind(cells::count(axis)) {
+        let value = word % KIND;
         if kind == 15 {
             finish(axis, value)
         } else {

@@ -1,9 +1,9 @@
-// A tick under settings. Settings and motion are read where they are used; the tick's switches, as bits, and the mode that its command
-// wants are worked out once.
+// A tick under settings. Settings and motion are read where they are used, and what the tick leaves is written as soon as it is known: few
+// values are alive at a time. The tick's switches, as bits, and the mode that its command wants are worked out once.
 use answers::Answer;
 use cells::Lent;
-use cells::Motion;
 use commands::Demand;
+use homing::Stand;
 use legs::events;
 use legs::events::Seen;
 use modes::Mode;
@@ -12,20 +12,69 @@ use states::State;
 use ticks::Tick;
 use torque::LimitSet;
 ghost use mathlib.Core.Path.{_≡_};
-ghost use mathlib.Core.Bool.{true, false};
+ghost use mathlib.Core.Bool.{Bool, true, cond};
 ghost use Rattle.commands.specs.Commands.{modeOf, wholeDemand};
+ghost use Rattle.legs.specs.Digits.{legInDigit};
 ghost use Rattle.legs.specs.Events.{viewOf, switchesIn};
-ghost use Rattle.homing.specs.Phase.{phaseOf};
+ghost use Rattle.homing.specs.Phase.{phaseOf, homedIn};
+ghost use Rattle.homing.specs.Places.{stoppedOf};
 ghost use Rattle.torque.specs.Torque.{torqueOf};
-ghost use Rattle.speed.specs.Speed.{speedOf};
+ghost use Rattle.speed.specs.Speed.{foundSpeed};
 ghost use Rattle.position.specs.Position.{positionOf, clampedOf};
+ghost use Rattle.states.specs.Alarm.{latchedOf};
 ghost use Rattle.ticks.specs.Rules.{alarmIn, viewWith};
-ghost use Rattle.ticks.specs.Moment.{motionAfter, momentAt};
-ghost use Rattle.answers.specs.Answer.{answerIn};
+ghost use Rattle.ticks.specs.Motion.{driven, phased};
+ghost use Rattle.ticks.specs.Moment.{newMode, newState};
 ghost use Rattle.patterns.specs.Patterns.{switchBits};
 ghost use Rattle.cells.specs.Cells.{settingsIn, motionIn};
-ghost use Rattle.cells.specs.Writes.{motionOf};
-ghost use Rattle.axis.specs.Calls.{phaseIn, homeIn, settledIn, Runs};
+ghost use Rattle.cells.specs.Writes.{Moved};
+ghost use Rattle.axis.specs.Calls.{arrived, Homes, answerBy, Runs};
+
+// The drive after a tick.
+struct Drive {
+    state: State,
+    // Modes of operation display (01: shown mode).
+    mode: Mode,
+    // Latched alarm number.
+    alarm: u32,
+}
+
+// alarm has what the command adds to the alarm word.
+fn drive_after(axis: &Lent, t: Tick, wanted: Mode, alarm: u32) -> Drive
+    requires wanted { ⌜ wanted ≡ modeOf (t .command) ⌝ }
+    requires alarm { ⌜ alarm ≡ alarmIn (settingsIn (now axis)) t ⌝ }
+    ensures state { λ r. ⌜ r .state ≡ newState (settingsIn (now (axis .entry))) (motionIn (now (axis .entry))) t ⌝ }
+    ensures mode { λ r. ⌜ r .mode ≡ newMode (motionIn (now (axis .entry))) t ⌝ }
+    ensures alarm { λ r. ⌜ r .alarm ≡ latchedOf (motionIn (now (axis .entry)) .alarm) (motionIn (now (axis .entry)) .state) (r .state) alarm ⌝ }
+{
+    let before = cells::state(axis);
+    let shown = cells::mode(axis);
+    let mode = modes::shown(wanted, shown, before, t.still);
+    let state = drive::next(
+        before,
+        t.control,
+        cells::control(axis),
+        t.still,
+        cells::option(axis),
+        alarm,
+    );
+    let number = states::latched(cells::alarm(axis), before, state, alarm);
+    Drive {
+        state,
+        mode,
+        alarm: number,
+    }
+}
+
+fn torque_in(axis: &Lent, set: LimitSet, on: bool, demand: Demand) -> i32
+    ensures { λ r. ⌜ r ≡ torqueOf (settingsIn (now (axis .entry))) set on (wholeDemand demand) ⌝ }
+{
+    if on {
+        torque::torque(cells::settings_in(axis), set, on, demand)
+    } else {
+        0
+    }
+}
 
 // What homing sees of the tick.
 fn seen(axis: &Lent, t: Tick, switches: u32) -> Seen
@@ -42,118 +91,67 @@ fn seen(axis: &Lent, t: Tick, switches: u32) -> Seen
     }
 }
 
-// Homing after a tick in which it is matched and the drive in Operation enabled.
-fn phase_after(axis: &Lent, t: Tick, switches: u32) -> u32
+fn speed_in(axis: &Lent, leg: u32) -> i32
+    ensures { λ r. ⌜ r ≡ foundSpeed (settingsIn (now (axis .entry))) (legInDigit leg) ⌝ }
+{
+    speed::speed(cells::settings_in(axis), leg)
+}
+
+// Home is the position of the tick in which the axis becomes homed.
+fn arrive(axis: &mut Lent, phase: u32, position: i32)
+    ensures { λ _. ⌜ Moved (now (axis .entry)) (arrived (motionIn (now (axis .entry))) (phaseOf phase) position) (now (axis .exit)) ⌝ }
+{
+    cells::put_phase(axis, phase);
+    if homing::is_homed(phase) {
+        cells::put_home(axis, position);
+    }
+}
+
+// Returns the speed.
+fn settle(axis: &mut Lent, after: Stand, position: i32) -> i32
+    ensures moved { λ _. ⌜ Moved (now (axis .entry)) (arrived (motionIn (now (axis .entry))) (phaseOf (after .phase)) position) (now (axis .exit)) ⌝ }
+    ensures speed { λ r. ⌜ r ≡ foundSpeed (settingsIn (now (axis .entry))) (legInDigit (after .leg)) ⌝ }
+{
+    arrive(axis, after.phase, position);
+    speed_in(axis, after.leg)
+}
+
+// Homing in a tick in which it is matched and the drive in Operation enabled.
+fn in_homing(axis: &mut Lent, t: Tick, switches: u32) -> i32
     requires { ⌜ switches ≡ switchBits (t .switches) ⌝ }
-    ensures { λ r. ⌜ phaseOf r ≡ phaseIn (now (axis .entry)) t true ⌝ }
+    ensures { λ r. ⌜ Homes (now (axis .entry)) t true (now (axis .exit)) r ⌝ }
 {
     let method = cells::method(axis);
     if control::rising(cells::control(axis), t.control, 4) {
-        homing::start(method, events::home_on(switches))
-    } else {
-        homing::step(cells::phase(axis), method, seen(axis, t, switches))
+        let home = events::home_on(switches);
+        let started = homing::start(method, home, counts::bit(t.control, 8));
+        return settle(axis, started, t.position);
     }
-}
-
-fn home_after(axis: &Lent, t: Tick, phase: u32) -> i32
-    ensures { λ r. ⌜ r ≡ homeIn (now (axis .entry)) t true (phaseOf phase) ⌝ }
-{
-    let starting = control::rising(cells::control(axis), t.control, 4);
-    let before = homing::is_homed(cells::phase(axis));
-    ticks::home_after(
-        cells::home(axis),
-        starting,
-        before,
-        homing::is_homed(phase),
-        t.position,
-    )
-}
-
-// What a tick leaves in which homing is on.
-fn in_homing(axis: &Lent, t: Tick, switches: u32, state: State, mode: Mode, alarm: u32) -> Motion
-    requires { ⌜ switches ≡ switchBits (t .switches) ⌝ }
-    ensures { λ r. ⌜ motionOf r ≡ settledIn (now (axis .entry)) t true state mode alarm ⌝ }
-{
-    let phase = phase_after(axis, t, switches);
-    let home = home_after(axis, t, phase);
-    Motion {
-        state,
-        mode,
-        control: t.control,
-        switches,
-        alarm,
-        phase,
-        home,
-        position: t.position,
-    }
-}
-
-// What any other tick leaves: homing stops, and home stays.
-fn out_of_homing(
-    axis: &Lent,
-    t: Tick,
-    switches: u32,
-    state: State,
-    mode: Mode,
-    alarm: u32,
-) -> Motion
-    requires { ⌜ switches ≡ switchBits (t .switches) ⌝ }
-    ensures { λ r. ⌜ motionOf r ≡ settledIn (now (axis .entry)) t false state mode alarm ⌝ }
-{
-    Motion {
-        state,
-        mode,
-        control: t.control,
-        switches,
-        alarm,
-        phase: homing::stop(cells::phase(axis), cells::method(axis)),
-        home: cells::home(axis),
-        position: t.position,
-    }
-}
-
-// What the tick leaves; alarm has what its command adds to the alarm word.
-fn motion_after(axis: &Lent, t: Tick, switches: u32, wanted: Mode, alarm: u32) -> Motion
-    requires switches { ⌜ switches ≡ switchBits (t .switches) ⌝ }
-    requires wanted { ⌜ wanted ≡ modeOf (t .command) ⌝ }
-    requires alarm { ⌜ alarm ≡ alarmIn (settingsIn (now axis)) t ⌝ }
-    ensures { λ r. ⌜ motionOf r ≡ motionAfter (settingsIn (now (axis .entry))) (motionIn (now (axis .entry))) t ⌝ }
-{
-    let before = cells::state(axis);
-    let shown = cells::mode(axis);
-    let mode = modes::shown(wanted, shown, before, t.still);
-    let state = drive::next(
-        before,
-        t.control,
-        cells::control(axis),
-        t.still,
-        cells::option(axis),
-        alarm,
-    );
-    let number = states::latched(cells::alarm(axis), before, state, alarm);
-    if ticks::homing_on(wanted, mode, state) {
-        in_homing(axis, t, switches, state, mode, number)
-    } else {
-        out_of_homing(axis, t, switches, state, mode, number)
-    }
-}
-
-fn torque_in(axis: &Lent, set: LimitSet, on: bool, demand: Demand) -> i32
-    ensures { λ r. ⌜ r ≡ torqueOf (settingsIn (now (axis .entry))) set on (wholeDemand demand) ⌝ }
-{
-    if on {
-        torque::torque(cells::settings_in(axis), set, on, demand)
+    let phase = cells::phase(axis);
+    if homing::is_running(phase) {
+        let stepped = homing::step(phase, method, seen(axis, t, switches));
+        settle(axis, stepped, t.position)
     } else {
         0
     }
 }
 
-fn speed_in(axis: &Lent, phase: u32, halted: bool) -> i32
-    ensures { λ r. ⌜ r ≡ speedOf (settingsIn (now (axis .entry))) (phaseOf phase) halted ⌝ }
+// Homing in any other tick stops; home stays.
+fn out_of_homing(axis: &mut Lent)
+    ensures { λ _. ⌜ Moved (now (axis .entry)) (phased (motionIn (now (axis .entry))) (stoppedOf (motionIn (now (axis .entry)) .phase) (settingsIn (now (axis .entry)) .method))) (now (axis .exit)) ⌝ }
 {
-    if homing::is_running(phase) {
-        speed::speed(cells::settings_in(axis), phase, halted)
+    let phase = homing::stop(cells::phase(axis), cells::method(axis));
+    cells::put_phase(axis, phase);
+}
+
+fn home(axis: &mut Lent, t: Tick, switches: u32, on: bool) -> i32
+    requires { ⌜ switches ≡ switchBits (t .switches) ⌝ }
+    ensures { λ r. ⌜ Homes (now (axis .entry)) t on (now (axis .exit)) r ⌝ }
+{
+    if on {
+        in_homing(axis, t, switches)
     } else {
+        out_of_homing(axis);
         0
     }
 }
@@ -182,43 +180,47 @@ fn place_in(axis: &Lent, home: i32, followed: Followed, actual: i32) -> Place
     }
 }
 
-// What the tick hands out, by the motion that it leaves.
-fn answer(axis: &Lent, t: Tick, wanted: Mode, m: Motion, demand: Demand) -> Answer
-    requires switches { ⌜ switchesIn (m .switches) ≡ t .switches ⌝ }
-    requires wanted { ⌜ wanted ≡ modeOf (t .command) ⌝ }
-    ensures { λ r. ⌜ r ≡ answerIn (settingsIn (now (axis .entry))) t (momentAt (motionIn (now (axis .entry))) t (motionOf m) demand) ⌝ }
+// What the tick hands out, by the motion that it has left.
+fn answer(axis: &Lent, t: Tick, d: Drive, switches: u32, torque: i32, speed: i32) -> Answer
+    requires { ⌜ switches ≡ switchBits (t .switches) ⌝ }
+    ensures { λ r. ⌜ r ≡ answerBy (settingsIn (now (axis .entry))) t (driven (motionIn (now (axis .entry))) (d .state) (d .mode) (d .alarm)) torque speed ⌝ }
 {
     let command = t.command;
-    let set = t.set;
-    let mode = m.mode;
-    let state = m.state;
-    let matched = modes::is_matched(wanted, mode);
-    let followed = ticks::command_target(command, matched, state, homing::is_homed(m.phase));
-    let place = place_in(axis, m.home, followed, t.position);
+    let mode = d.mode;
+    let state = d.state;
+    let phase = cells::phase(axis);
+    let followed = ticks::command_target(command, mode, state, homing::is_homed(phase));
+    let place = place_in(axis, cells::home(axis), followed, t.position);
     let following = answers::following(followed);
-    let limited = status::limited(m.switches, place.clamped);
+    let limited = status::limited(switches, place.clamped);
     Answer {
         number: 0,
-        torque: torque_in(axis, set, states::is_live(state) & matched, demand),
-        speed: speed_in(axis, m.phase, counts::bit(t.control, 8)),
+        torque,
+        speed,
         position: place.position,
         mode: modes::number(mode),
-        status: status::statusword(state, mode, m.phase, following, limited),
-        alarm: m.alarm,
+        status: status::statusword(state, mode, phase, following, limited),
+        alarm: d.alarm,
     }
 }
 
-// Mode, drive state, homing and answer; then the inputs are remembered.
+// Drive, torque and homing; the inputs are remembered; then the answer.
 pub fn tick(axis: &mut Lent, t: Tick) -> Answer
     ensures { λ r. ⌜ Runs (now (axis .entry)) t (now (axis .exit)) r ⌝ }
 {
     let command = t.command;
     let switches = t.switches;
+    let set = t.set;
     let bits = patterns::switch_bits(switches);
     let demand = commands::torque_demand(command, cells::rated(axis));
     let wanted = commands::mode(command);
-    let m = motion_after(axis, t, bits, wanted, commands::alarms(demand, t.alarm));
-    let a = answer(axis, t, wanted, m, demand);
-    cells::put_motion(axis, m);
-    a
+    let d = drive_after(axis, t, wanted, commands::alarms(demand, t.alarm));
+    let state = d.state;
+    let mode = d.mode;
+    let on = states::is_live(state) & modes::is_matched(wanted, mode);
+    let torque = torque_in(axis, set, on, demand);
+    cells::put_drive(axis, state, mode, d.alarm);
+    let speed = home(axis, t, bits, ticks::homing_on(wanted, mode, state));
+    cells::put_inputs(axis, t.control, bits, t.position);
+    answer(axis, t, d, bits, torque, speed)
 }

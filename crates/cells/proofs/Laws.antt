@@ -5,18 +5,25 @@ use mathlib.Core.Path.{_≡_, refl, ap, ap₂, _∙_}
 use mathlib.Core.List.{List, _∷_}
 use native.Mathlib.Omega.{arith}
 use lib.ListN.{length, set}
-use lib.Seq.{sets, getD-set-other}
+use lib.IntN.{ℤ}
+use lib.Seq.{getD-set-other}
 use lib.Signed.{mag}
 use Rattle.counts.specs.Wrap.{modulo, signed, wrapped}
+use Rattle.states.specs.declared.State.{State}
+use Rattle.states.specs.States.{stateNumber}
+use Rattle.modes.specs.declared.Mode.{Mode}
+use Rattle.modes.specs.Modes.{modePlace}
+use Rattle.legs.specs.Events.{switchesIn}
+use Rattle.homing.specs.Phase.{phaseOf}
+use Rattle.ticks.specs.Motion.{driven, phased, homeAt, fed}
 use Rattle.words.specs.Encode.{total}
 use Rattle.words.specs.Decode.{settingsOf}
 use Rattle.reader.specs.Read.{started, kept}
 use Rattle.patterns.specs.Patterns.{wordAt, stateOf, modeOf}
 use Rattle.patterns.proofs.Back.{signed-back, state-back, mode-back}
 use Rattle.cells.specs.Lists.{cellsFrom}
-use Rattle.cells.specs.Cells.{activeIn, pendingIn, axisIn, ZerosAreFresh}
-use Rattle.cells.specs.Writes.{Pends, emptied, Emptied, copied, Activated, motionWords, Remembered}
-use Rattle.cells.specs.declared.Motion as stored
+use Rattle.cells.specs.Cells.{activeIn, pendingIn, motionIn, axisIn, ZerosAreFresh}
+use Rattle.cells.specs.Writes.{Pends, emptied, Emptied, copied, Activated, Moved}
 use Rattle.cells.proofs.Lists.{spelled}
 
 pub cleared : ZerosAreFresh
@@ -86,25 +93,24 @@ unfolding total
 summed l k zero = let i : k + 0 ≡ k = omega arith in rw i (omega arith)
 summed l k (suc n) = let i : k + suc n ≡ suc k + n = omega arith in rw i (let e = summed l (suc k) n in omega (arith, e))
 
--- what the machine's own motion keeps to
-pub record Fit (m : stored.Motion) : Type 0 where
-  pub home : mag (m .home) < 2 ^ 31
-  pub control : m .control < 2 ^ 16
-  pub position : mag (m .position) < 2 ^ 31
+-- the parts of motion: what is stored reads back
+module _ (l : List ℕ) (h : length l ≡ 37) where
+  pub driven-words : (state : State) (mode : Mode) (alarm : ℕ)
+      → Moved l (driven (motionIn l) state mode alarm) (set (set (set l 29 (stateNumber state)) 30 (modePlace mode)) 31 alarm)
+  unfolding axisIn activeIn
+  driven-words state mode alarm = record { axis = rw (spelled 37 l h, state-back state, mode-back mode); kept = rw (spelled 37 l h) }
 
-pub remembered : (l : List ℕ) → length l ≡ 37 → (m : stored.Motion) → Fit m → Remembered l m (sets l 29 (motionWords m))
-unfolding axisIn activeIn motionWords
-remembered l h m f =
-    let k : m .control % 2 ^ 16 ≡ m .control = omega arith in
-    record {
-      axis =
-          rw (
-            spelled 37 l h,
-            state-back (m .state),
-            mode-back (m .mode),
-            signed-back (m .home) (f .home),
-            k,
-            signed-back (m .position) (f .position),
-          );
-      kept = rw (spelled 37 l h);
-    }
+  pub phased-words : (phase : ℕ) → Moved l (phased (motionIn l) (phaseOf phase)) (set l 32 phase)
+  unfolding axisIn activeIn
+  phased-words phase = record { axis = rw (spelled 37 l h); kept = rw (spelled 37 l h) }
+
+  pub home-words : (home : ℤ) → mag home < 2 ^ 31 → Moved l (homeAt (motionIn l) home) (set l 33 (modulo 32 home))
+  unfolding axisIn activeIn
+  home-words home f = record { axis = rw (spelled 37 l h, signed-back home f); kept = rw (spelled 37 l h) }
+
+  pub fed-words : (control switches : ℕ) (position : ℤ) → control < 2 ^ 16 → mag position < 2 ^ 31
+      → Moved l (fed (motionIn l) control (switchesIn switches) position) (set (set (set l 34 control) 35 switches) 36 (modulo 32 position))
+  unfolding axisIn activeIn
+  fed-words control switches position f g =
+      let k : control % 2 ^ 16 ≡ control = omega arith in
+      record { axis = rw (spelled 37 l h, k, signed-back position g); kept = rw (spelled 37 l h) }

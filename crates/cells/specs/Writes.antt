@@ -3,24 +3,18 @@
 use Prim.Native.Nat.{ℕ, zero, suc, _+_}
 use mathlib.Core.Path.{_≡_}
 use mathlib.Core.Bool.{cond}
-use mathlib.Core.List.{List, [], _∷_}
+use mathlib.Core.List.{List}
 use lib.Dec.{ltb}
 use lib.ListN.{take, drop, set, replicate}
-use Rattle.counts.specs.Wrap.{modulo}
-use Rattle.states.specs.States.{stateNumber}
-use Rattle.modes.specs.Modes.{modePlace}
 use Rattle.words.specs.Decode.{settingsOf}
 use Rattle.reader.specs.Pending.{Pending}
 use Rattle.reader.specs.Read.{emptyPending, started, kept}
-use Rattle.homing.specs.Phase.{phaseOf}
 use Rattle.ticks.specs.Motion.{Motion, idled}
 use Rattle.rules.specs.Axis.{Set, freshAxis}
 use Rattle.rules.specs.Word.{withPending}
-use Rattle.legs.specs.Events.{switchesIn}
 use Rattle.patterns.specs.Patterns.{wordAt}
 use Rattle.cells.specs.Lists.{cellsFrom}
 use Rattle.cells.specs.Cells.{pendingIn, motionIn, axisIn, SettingsKept, PendingKept, FrontKept, MotionKept}
-use Rattle.cells.specs.declared.Motion as stored
 
 pub record Cleared (m : List ℕ) : Type 0 where
   pub axis : axisIn m ≡ freshAxis
@@ -70,33 +64,7 @@ pub record Activated (l m : List ℕ) : Type 0 where
   pub pending : PendingKept l m
   pub motion : InputsKept l m
 
--- what stored motion means, and its words
-abbrev pub motionOf : stored.Motion → Motion
-motionOf s =
-    record {
-      state = s .state;
-      mode = s .mode;
-      alarm = s .alarm;
-      phase = phaseOf (s .phase);
-      home = s .home;
-      control = s .control;
-      switches = switchesIn (s .switches);
-      position = s .position;
-    }
-
-unfoldable pub motionWords : stored.Motion → List ℕ
-motionWords s =
-    stateNumber (s .state)
-    ∷ modePlace (s .mode)
-    ∷ s .alarm
-    ∷ s .phase
-    ∷ modulo 32 (s .home)
-    ∷ s .control
-    ∷ s .switches
-    ∷ modulo 32 (s .position)
-    ∷ []
-
--- motion is what a tick leaves; the settings in force and what is pending are kept
-pub record Remembered (l : List ℕ) (s : stored.Motion) (m : List ℕ) : Type 0 where
-  pub axis : axisIn m ≡ record { active = axisIn l .active; pending = axisIn l .pending; motion = motionOf s }
+-- motion is a, and nothing else changes
+pub record Moved (l : List ℕ) (a : Motion) (m : List ℕ) : Type 0 where
+  pub axis : axisIn m ≡ record { active = axisIn l .active; pending = axisIn l .pending; motion = a }
   pub kept : FrontKept l m

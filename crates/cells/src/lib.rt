@@ -8,15 +8,15 @@ ghost use mathlib.Core.Path.{_≡_};
 ghost use mathlib.Core.Bool.{not};
 ghost use lib.Dec.{eqb};
 ghost use lib.ListN.{length};
-ghost use lib.Seq.{sets};
 ghost use Rattle.homing.specs.Phase.{phaseOf};
 ghost use Rattle.words.specs.Decode.{settingsOf};
 ghost use Rattle.words.specs.Encode.{checksumOf};
 ghost use Rattle.legs.specs.Events.{switchesIn};
 ghost use Rattle.patterns.specs.Patterns.{wordAt};
-ghost use Rattle.cells.specs.Lists.{cellsFrom, cells};
+ghost use Rattle.ticks.specs.Motion.{driven, phased, homeAt, fed};
+ghost use Rattle.cells.specs.Lists.{cellsFrom};
 ghost use Rattle.cells.specs.Cells.{settingsIn, pendingIn, motionIn};
-ghost use Rattle.cells.specs.Writes.{Cleared, Emptied, Begun, Appended, valuesIn, copied, Activated, motionWords, Remembered};
+ghost use Rattle.cells.specs.Writes.{Cleared, Emptied, Begun, Appended, valuesIn, copied, Activated, Moved};
 
 // The lent words: the settings in force, what is pending, motion. Words 0 to 13 are the data of the settings words that came into force;
 // the first, the start word's, is 0 where none did.
@@ -48,24 +48,6 @@ const CONTROL: usize = 34;
 const SWITCHES: usize = 35;
 
 const POSITION: usize = 36;
-
-// What an axis keeps from tick to tick, with no gap between the fields: the drive's state, the mode that it shows, homing, and the inputs
-// of the tick before.
-pub struct Motion {
-    pub state: State,
-    // Modes of operation display (01: shown mode).
-    pub mode: Mode,
-    pub control: u16,
-    // POT, NOT, HOM, Z, from bit 0 on.
-    pub switches: u32,
-    // Latched alarm number.
-    pub alarm: u32,
-    // Where homing stands (`homing::IDLE` and the others).
-    pub phase: u32,
-    // The count of home; of no meaning unless homed.
-    pub home: i32,
-    pub position: i32,
-}
 
 // By value an array tells its length; in a contract, a reference to it does not.
 fn lent(axis: Lent)
@@ -277,43 +259,36 @@ pub fn activate(axis: &mut Lent)
     axis[PHASE] = homing::IDLE;
 }
 
-fn motion_words(m: Motion) -> [u32; 8]
-    ensures { λ r. ⌜ r ≡ motionWords m ⌝ }
-{
-    let state = m.state;
-    let mode = m.mode;
-    let home = patterns::pattern(m.home);
-    let position = patterns::pattern(m.position);
-    [
-        states::state_number(state),
-        modes::place(mode),
-        m.alarm,
-        m.phase,
-        home,
-        m.control as u32,
-        m.switches,
-        position,
-    ]
-}
-
-fn put_words(axis: &mut Lent, w: [u32; 8])
-    ensures { λ _. ⌜ now (axis .exit) ≡ sets (now (axis .entry)) 29 (cells 8 w) ⌝ }
-{
-    axis[STATE] = w[0];
-    axis[MODE] = w[1];
-    axis[ALARM] = w[2];
-    axis[PHASE] = w[3];
-    axis[HOME] = w[4];
-    axis[CONTROL] = w[5];
-    axis[SWITCHES] = w[6];
-    axis[POSITION] = w[7];
-}
-
-// What a tick leaves.
-pub fn put_motion(axis: &mut Lent, m: Motion)
-    ensures { λ _. ⌜ Remembered (now (axis .entry)) m (now (axis .exit)) ⌝ }
+// What a tick leaves is written in parts, each as soon as it is known: drive, homing, and the inputs that the next tick compares with.
+pub fn put_drive(axis: &mut Lent, state: State, mode: Mode, alarm: u32)
+    ensures { λ _. ⌜ Moved (now (axis .entry)) (driven (motionIn (now (axis .entry))) state mode alarm) (now (axis .exit)) ⌝ }
 {
     lent(*axis);
-    let words = motion_words(m);
-    put_words(axis, words);
+    axis[STATE] = states::state_number(state);
+    axis[MODE] = modes::place(mode);
+    axis[ALARM] = alarm;
+}
+
+pub fn put_phase(axis: &mut Lent, phase: u32)
+    ensures { λ _. ⌜ Moved (now (axis .entry)) (phased (motionIn (now (axis .entry))) (phaseOf phase)) (now (axis .exit)) ⌝ }
+{
+    lent(*axis);
+    axis[PHASE] = phase;
+}
+
+pub fn put_home(axis: &mut Lent, home: i32)
+    ensures { λ _. ⌜ Moved (now (axis .entry)) (homeAt (motionIn (now (axis .entry))) home) (now (axis .exit)) ⌝ }
+{
+    lent(*axis);
+    axis[HOME] = patterns::pattern(home);
+}
+
+// switches: POT, NOT, HOM, Z, from bit 0 on.
+pub fn put_inputs(axis: &mut Lent, control: u16, switches: u32, position: i32)
+    ensures { λ _. ⌜ Moved (now (axis .entry)) (fed (motionIn (now (axis .entry))) control (switchesIn switches) position) (now (axis .exit)) ⌝ }
+{
+    lent(*axis);
+    axis[CONTROL] = control as u32;
+    axis[SWITCHES] = switches;
+    axis[POSITION] = patterns::pattern(position);
 }

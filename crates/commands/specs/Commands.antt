@@ -20,6 +20,14 @@ modeOf (Position target request) = mode.Position
 modeOf (Torque request) = mode.Torque
 modeOf Rest = mode.None
 
+-- the target of a position command; 0 of any other, which has none
+abbrev pub targetIn : Command → ℤ
+targetIn (Hybrid h) = pos 0
+targetIn (Homing request) = pos 0
+targetIn (Position target request) = target
+targetIn (Torque request) = pos 0
+targetIn Rest = pos 0
+
 -- "The demand is the request, or in hybrid the value below"; rest is never matched, so what it asks for does not matter
 abbrev pub demandOf : Command → ℕ → Demand
 demandOf (Hybrid h) rated = Quotient (quotientOf h rated)

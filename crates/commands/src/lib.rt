@@ -2,7 +2,7 @@
 use hybrid::Hybrid;
 use modes::Mode;
 ghost use mathlib.Core.Path.{_≡_};
-ghost use Rattle.commands.specs.Commands.{modeOf, demandOf, withBit31, alarmOf};
+ghost use Rattle.commands.specs.Commands.{modeOf, targetIn, demandOf, withBit31, alarmOf};
 
 // Each tick carries one. Requests are torques in thousandths of the rated torque; a target is in user units.
 pub enum Command {
@@ -29,6 +29,19 @@ pub fn mode(command: Command) -> Mode
         Command::Position(_, _) => Mode::Position,
         Command::Torque(_) => Mode::Torque,
         Command::Rest => Mode::None,
+    }
+}
+
+// The target of a position command; 0 of any other.
+pub fn target(command: Command) -> i32
+    ensures { λ r. ⌜ r ≡ targetIn command ⌝ }
+{
+    match command {
+        Command::Hybrid(_) => 0,
+        Command::Homing(_) => 0,
+        Command::Position(target, _) => target,
+        Command::Torque(_) => 0,
+        Command::Rest => 0,
     }
 }
 

@@ -8,9 +8,9 @@ use native.Mathlib.Omega.{arith}
 use borrow.Author.Tests.{eq-eqb, ne-eqb}
 use Rattle.legs.specs.Found.{Found, isLeg}
 use Rattle.legs.specs.Found as found
-use Rattle.legs.specs.Events.{View, foundCounts, foundLimitCounts}
+use Rattle.legs.specs.Events.{View, eventCounts, limitCounts, foundCounts, foundLimitCounts}
 use Rattle.legs.specs.Routes.{Row, rowOf}
-use Rattle.legs.specs.Places.{legAt}
+use Rattle.legs.specs.Places.{homePlace, legAt}
 use Rattle.homing.specs.Phase.{Phase, Idle, Running, Failed}
 use Rattle.homing.specs.Places.{entered, limitAt, tickIn, runningOf, startIn, startOf}
 use Rattle.legs.proofs.Rows.{between, known, isRow, turn-rule, known-rule, unknown}
@@ -44,11 +44,17 @@ run-tests m p v = go (legAt m p) (v .kept) refl
     go (found.Leg l) true e = cc
     go (found.Leg l) false e = cc
 
-pub start-known : (m : ℕ) (home : Bool) → known m ≡ true → startOf m home ≡ entered m (cond home 8 0)
+-- "With bit 8 (halt) set nothing counts."
+pub none-counts : (f : Found) (v : View) → v .halted ≡ true → (foundCounts f v ≡ false) × (foundLimitCounts f v ≡ false)
+unfolding eventCounts limitCounts
+none-counts found.Nothing v h = (refl, refl)
+none-counts (found.Leg l) v h = (rw h, rw h)
+
+pub start-known : (m : ℕ) (home : Bool) → known m ≡ true → startOf m home ≡ entered m (cond home (homePlace m) 0)
 unfolding startOf
 start-known m home k = go (rowOf m) (known-rule m ∙ k)
   where
-    go : (o : Option Row) → isRow o ≡ true → startIn m home o ≡ entered m (cond home 8 0)
+    go : (o : Option Row) → isRow o ≡ true → startIn m home o ≡ entered m (cond home (homePlace m) 0)
     go none e = let z : _≡_ {A = ℕ} 0 1 = cc in absurd (omega arith)
     go (some r) e = refl
 

@@ -13,14 +13,14 @@ use borrow.Author.Tests.{ne-eqb}
 use Rattle.legs.specs.Legs.{Leg}
 use Rattle.legs.specs.Found as found
 use Rattle.legs.specs.Events.{View, eventCounts, limitCounts}
-use Rattle.legs.specs.Routes.{Row, rowOf, Plan, later, planFrom, planOf}
+use Rattle.legs.specs.Routes.{Row, table, rowOf, Plan, later, planFrom, planOf}
 use Rattle.homing.specs.Complete.{CompletesPlan}
 use Rattle.homing.specs.Progress.{Progress, idle, failed, homed, running, begin, onLimit, advance, advanceAll, started, isHomed}
-use Rattle.legs.specs.Places.{slot, rest, placesOf, legAt, hasTurn, turns}
+use Rattle.legs.specs.Places.{slot, rest, placesOf, homePlace, legAt, hasTurn, turns}
 use Rattle.homing.specs.Phase.{Phase, Idle, Running, Homed, Failed, homedIn}
 use Rattle.homing.specs.Places.{entered, limitAt, runningOf, startIn, startOf, stepOf, stepAll}
 use Rattle.homing.proofs.Completion.{homed-iff, idle-stays}
-use Rattle.legs.proofs.Rows.{row-roomy}
+use Rattle.legs.proofs.Rows.{Every, found-holds, row-roomy}
 
 -- method m's legs from a place on, up to an empty place, are these
 abbrev pub From : ℕ → ℕ → List Leg → Type 0
@@ -50,6 +50,17 @@ holds m i (x ∷ y ∷ []) h p q r s = (p, (q, r))
 holds m i (x ∷ y ∷ z ∷ []) h p q r s = (p, (q, (r, s)))
 holds m i (x ∷ y ∷ z ∷ w ∷ ls) h p q r s = absurd (omega arith)
 
+-- where each method of the table has its route c
+abbrev AtHome : ℕ → Row → Type 0
+AtHome m r = From m (homePlace m) (r .c) × Turn m (homePlace m) none
+
+homes : Every AtHome table
+unfolding legAt limitAt rowOf
+homes = (
+  ((refl, refl), refl),
+  (((refl, (refl, refl)), refl), (((refl, (refl, refl)), refl), (((refl, refl), refl), (((refl, refl), refl), (((refl, (refl, refl)), refl), (((refl, (refl, refl)), refl), (((refl, refl), refl), (((refl, refl), refl), (((refl, refl), refl), ((refl, refl), tt)))))))))),
+)
+
 module _ (m : ℕ) (r : Row) (e : rowOf m ≡ some r) where
   row-at : (i : ℕ) → legAt m i ≡ getD (placesOf r) i found.Nothing
   unfolding legAt
@@ -61,8 +72,10 @@ module _ (m : ℕ) (r : Row) (e : rowOf m ≡ some r) where
   turn-from : From m 4 (rest (r .b))
   turn-from = holds m 4 (rest (r .b)) (row-roomy m r e .turned) (row-at 4) (row-at 5) (row-at 6) (row-at 7)
 
-  home-from : From m 8 (r .c)
-  home-from = holds m 8 (r .c) (row-roomy m r e .home) (row-at 8) (row-at 9) (row-at 10) (row-at 11)
+  -- route c stands in the row too, and no limit turns it
+  home-from : From m (homePlace m) (r .c) × Turn m (homePlace m) none
+  unfolding rowOf
+  home-from = found-holds AtHome m r table homes e
 
   turn-at : limitAt m 0 ≡ cond (turns (r .b) && true) (entered m 4) Failed
   unfolding limitAt
@@ -118,7 +131,7 @@ module _ (m : ℕ) where
     where
       go : (h : Bool) (o : Option Row) → rowOf m ≡ o → Same m (startIn m h o) (started (planFrom h o))
       go h none e = both-idle
-      go true (some r) e = enter-same 8 (r .c) none (home-from m r e) (no-turn 7)
+      go true (some r) e = let f = home-from m r e in enter-same (homePlace m) (r .c) none (f .0) (f .1)
       go false (some r) e = enter-same 0 (r .a) (later (r .b)) (main-from m r e) (turn-first m r e)
 
 pub same-homed : {m : ℕ} {p : Phase} {q : Progress} → Same m p q → homedIn p ≡ isHomed q

@@ -37,7 +37,7 @@ runningOf method place v = tickIn method place v (legAt method place)
 -- the start tick: the first place of a or c. A number that is no method makes homing idle.
 abbrev pub startIn : ℕ → Bool → Option Row → Phase
 startIn method home none = Idle
-startIn method home (some r) = entered method (cond home homePlace 0)
+startIn method home (some r) = entered method (cond home (homePlace method) 0)
 
 unfoldable pub startOf : ℕ → Bool → Phase
 startOf method home = startIn method home (rowOf method)

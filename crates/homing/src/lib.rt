@@ -2,9 +2,12 @@
 use legs::events;
 use legs::events::Seen;
 ghost use mathlib.Core.Path.{_≡_};
+ghost use mathlib.Core.Bool.{false, cond};
 ghost use Rattle.legs.specs.Events.{viewOf};
+ghost use Rattle.legs.specs.Places.{homePlace};
 ghost use Rattle.homing.specs.Phase.{phaseOf, homedIn, runningIn, failedIn};
 ghost use Rattle.homing.specs.Places.{entered, limitAt, runningOf, startOf, stepOf, stoppedOf};
+ghost use Rattle.homing.specs.Moving.{Stands};
 
 // Where homing stands, as one number: idle, homed, failed, or RUNNING and the running leg's place in its method's row.
 pub const IDLE: u32 = 0;
@@ -15,44 +18,63 @@ pub const FAILED: u32 = 2;
 
 pub const RUNNING: u32 = 3;
 
+// Homing after a tick, and the leg in which the axis moves then: 0 where none runs or the tick is halted.
+pub struct Stand {
+    pub phase: u32,
+    pub leg: u32,
+}
+
+fn resting(phase: u32) -> Stand
+    ensures phase { λ r. ⌜ r .phase ≡ phase ⌝ }
+    ensures leg { λ r. ⌜ r .leg ≡ 0 ⌝ }
+{
+    Stand { phase, leg: 0 }
+}
+
 // At a place, or homed where the route has no leg there.
-fn enter(method: u32, place: u32) -> u32
-    ensures { λ r. ⌜ phaseOf r ≡ entered method place ⌝ }
+fn enter(method: u32, place: u32) -> Stand
+    ensures { λ r. ⌜ Stands method (entered method place) false r ⌝ }
 {
     let leg = legs::leg_at(method, place);
     if legs::is_leg(leg) {
-        RUNNING + place
+        Stand {
+            phase: RUNNING + place,
+            leg,
+        }
     } else {
-        HOMED
+        resting(HOMED)
     }
 }
 
 // A limit turns route a's first leg to route b's second; any other leg fails.
-fn at_limit(method: u32, place: u32) -> u32
-    ensures { λ r. ⌜ phaseOf r ≡ limitAt method place ⌝ }
+fn at_limit(method: u32, place: u32) -> Stand
+    ensures { λ r. ⌜ Stands method (limitAt method place) false r ⌝ }
 {
     match method {
         23..=30 => {
             if place == 0 {
                 enter(method, legs::TURN)
             } else {
-                FAILED
+                resting(FAILED)
             }
         }
-        _ => FAILED,
+        _ => resting(FAILED),
     }
 }
 
-// One tick in a leg.
-fn run(method: u32, place: u32, seen: Seen) -> u32
-    ensures { λ r. ⌜ phaseOf r ≡ runningOf method place (viewOf seen) ⌝ }
+// One tick in a leg. In a halted one nothing counts.
+fn run(method: u32, place: u32, seen: Seen) -> Stand
+    ensures { λ r. ⌜ Stands method (runningOf method place (viewOf seen)) (seen .halted) r ⌝ }
 {
     let leg = legs::leg_at(method, place);
     if !legs::is_leg(leg) {
-        return FAILED;
+        return resting(FAILED);
     }
     if !seen.kept {
-        return IDLE;
+        return resting(IDLE);
+    }
+    if seen.halted {
+        return resting(RUNNING + place);
     }
     if events::event_counts(leg, seen) {
         return enter(method, place + 1);
@@ -60,32 +82,42 @@ fn run(method: u32, place: u32, seen: Seen) -> u32
     if events::limit_counts(leg, seen) {
         at_limit(method, place)
     } else {
-        RUNNING + place
+        Stand {
+            phase: RUNNING + place,
+            leg,
+        }
     }
 }
 
+fn first_place(method: u32, home: bool) -> u32
+    ensures { λ r. ⌜ r ≡ cond home (homePlace method) 0 ⌝ }
+{
+    if home { legs::home_place(method) } else { 0 }
+}
+
 // Homing after its start tick; home is HOM in that tick. A number that is no method makes homing idle.
-pub fn start(method: u32, home: bool) -> u32
-    ensures { λ r. ⌜ phaseOf r ≡ startOf method home ⌝ }
+pub fn start(method: u32, home: bool, halted: bool) -> Stand
+    ensures { λ r. ⌜ Stands method (startOf method home) halted r ⌝ }
 {
     match method {
         23..=30 | 33..=35 => {
-            if home {
-                enter(method, legs::ON_HOME)
+            let entered = enter(method, first_place(method, home));
+            if halted {
+                resting(entered.phase)
             } else {
-                enter(method, 0)
+                entered
             }
         }
-        _ => IDLE,
+        _ => resting(IDLE),
     }
 }
 
 // Homing after a later tick.
-pub fn step(phase: u32, method: u32, seen: Seen) -> u32
-    ensures { λ r. ⌜ phaseOf r ≡ stepOf (phaseOf phase) method (viewOf seen) ⌝ }
+pub fn step(phase: u32, method: u32, seen: Seen) -> Stand
+    ensures { λ r. ⌜ Stands method (stepOf (phaseOf phase) method (viewOf seen)) (seen .halted) r ⌝ }
 {
     if phase < RUNNING {
-        phase
+        resting(phase)
     } else {
         run(method, phase - RUNNING, seen)
     }

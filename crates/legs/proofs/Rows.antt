@@ -8,7 +8,7 @@ use Prim.Native.Nat.{ℕ, _≤_, _<_}
 use native.Mathlib.Omega.{arith}
 use lib.Dec.{T, eqb, leb, ltb, ltb→lt}
 use lib.ListN.{length}
-use borrow.Author.Tests.{ltb-true, ltb-false, le-leb, lt-leb, ne-eqb}
+use borrow.Author.Tests.{eqb-true, ltb-true, ltb-false, le-leb, lt-leb, ne-eqb}
 use Rattle.legs.specs.Legs.{Leg}
 use Rattle.legs.specs.Routes.{Row, Entry, table, lookup, rowOf}
 use Rattle.legs.specs.Places.{rest, hasTurn}
@@ -39,17 +39,29 @@ found-passes f m r (e ∷ es) t q = go (eqb m (e .method)) (found-passes f m r e
     go true ih p = let s : e .row ≡ r = cc in subst (λ x. T (f x)) s (both-left (f (e .row)) _ t)
     go false ih p = ih p
 
+-- what holds of every entry holds of a row that is found
+abbrev pub Every : (ℕ → Row → Type 0) → List Entry → Type 0
+Every P [] = Unit
+Every P (e ∷ es) = P (e .method) (e .row) × Every P es
+
+pub found-holds : (P : ℕ → Row → Type 0) (m : ℕ) (r : Row) (es : List Entry) → Every P es → lookup m es ≡ some r → P m r
+found-holds P m r [] h q = let z : _≡_ {A = ℕ} 0 1 = cc in absurd (omega arith)
+found-holds P m r (e ∷ es) h q = go (eqb m (e .method)) refl (found-holds P m r es (h .1)) q
+  where
+    go : (b : Bool) → eqb m (e .method) ≡ b → (lookup m es ≡ some r → P m r) → cond b (some (e .row)) (lookup m es) ≡ some r → P m r
+    go true t ih p = let s : e .row ≡ r = cc in rw (eqb-true m (e .method) t) (subst (λ x. P (e .method) x) s (h .0))
+    go false t ih p = ih p
+
 -- each route of a row ends within its four places
 abbrev fits : List Leg → Bool
 fits ls = ltb (length ls) 4
 
 abbrev pub roomy : Row → Bool
-roomy r = both (fits (r .a)) (both (fits (rest (r .b))) (fits (r .c)))
+roomy r = both (fits (r .a)) (fits (rest (r .b)))
 
 pub record Roomy (r : Row) : Type 0 where
   pub first : length (r .a) < 4
   pub turned : length (rest (r .b)) < 4
-  pub home : length (r .c) < 4
 
 pub row-roomy : (m : ℕ) (r : Row) → rowOf m ≡ some r → Roomy r
 unfolding rowOf
@@ -57,8 +69,7 @@ row-roomy m r q =
     let t = found-passes roomy m r table tt q in
     record {
       first = ltb→lt (length (r .a)) 4 (both-left (fits (r .a)) _ t);
-      turned = ltb→lt (length (rest (r .b))) 4 (both-left (fits (rest (r .b))) _ (both-right (fits (r .a)) _ t));
-      home = ltb→lt (length (r .c)) 4 (both-right (fits (rest (r .b))) _ (both-right (fits (r .a)) _ t));
+      turned = ltb→lt (length (rest (r .b))) 4 (both-right (fits (r .a)) _ t);
     }
 
 -- no method is 36 or more

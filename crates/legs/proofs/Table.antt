@@ -18,7 +18,7 @@ use Rattle.legs.proofs.Computed.{listed, agree}
 use Rattle.legs.proofs.Rows.{known, below-all, above-all, unknown}
 
 -- past a row's places
-pub past : (m p : ℕ) → 12 ≤ p → legAt m p ≡ found.Nothing
+pub past : (m p : ℕ) → 8 ≤ p → legAt m p ≡ found.Nothing
 unfolding legAt
 past m p h = go (rowOf m)
   where
@@ -26,41 +26,41 @@ past m p h = go (rowOf m)
     go none = refl
     go (some r) = List·getD-eq-default (placesOf r) found.Nothing h
 
--- a leg stands at a place below 12
-pub placed : (m p : ℕ) → isLeg (legAt m p) ≡ true → p < 12
-placed m p e = go (ltb p 12) refl
+-- a leg stands at a place below 8
+pub placed : (m p : ℕ) → isLeg (legAt m p) ≡ true → p < 8
+placed m p e = go (ltb p 8) refl
   where
-    go : (b : Bool) → ltb p 12 ≡ b → p < 12
-    go true t = ltb-true p 12 t
-    go false t = absurd (false≢true (rw (past m p (ltb-false p 12 t)) at e))
+    go : (b : Bool) → ltb p 8 ≡ b → p < 8
+    go true t = ltb-true p 8 t
+    go false t = absurd (false≢true (rw (past m p (ltb-false p 8 t)) at e))
 
 -- the leg that the code picks out of its table
 abbrev pub picked : ℕ → ℕ → Found
-picked m p = legInDigit (rowDigits m / 2 ^ (44 - 4 * p) % 16)
+picked m p = legInDigit (rowDigits m / 2 ^ (28 - 4 * p) % 16)
 
--- it is the method's, at each of twelve places for each of the numbers 23 to 35
-entries : listed (λ n. picked (23 + n / 12) (n % 12)) 0 156 ≡ listed (λ n. legAt (23 + n / 12) (n % 12)) 0 156
+-- it is the method's, at each of eight places for each of the numbers 23 to 35
+entries : listed (λ n. picked (23 + n / 8) (n % 8)) 0 104 ≡ listed (λ n. legAt (23 + n / 8) (n % 8)) 0 104
 unfolding rowOf legAt rowDigits legInDigit
 entries = refl
 
-inside : (m p : ℕ) → 23 ≤ m → m < 36 → p < 12 → picked m p ≡ legAt m p
+inside : (m p : ℕ) → 23 ≤ m → m < 36 → p < 8 → picked m p ≡ legAt m p
 inside m p h k l =
-    let n = (m - 23) * 12 + p in
-    let e = agree (λ j. picked (23 + j / 12) (j % 12)) (λ j. legAt (23 + j / 12) (j % 12)) 156 entries n (omega arith) in
-    let q : 23 + n / 12 ≡ m = omega arith in
-    let r : n % 12 ≡ p = omega arith in
+    let n = (m - 23) * 8 + p in
+    let e = agree (λ j. picked (23 + j / 8) (j % 8)) (λ j. legAt (23 + j / 8) (j % 8)) 104 entries n (omega arith) in
+    let q : 23 + n / 8 ≡ m = omega arith in
+    let r : n % 8 ≡ p = omega arith in
     rw (q, r) at e
 
 -- every number that is no method is as 31
-empty : (p : ℕ) → p < 12 → legInDigit (0 / 2 ^ (44 - 4 * p) % 16) ≡ found.Nothing
+empty : (p : ℕ) → p < 8 → legInDigit (0 / 2 ^ (28 - 4 * p) % 16) ≡ found.Nothing
 unfolding rowOf rowDigits legAt
 empty p l = inside 31 p (omega arith) (omega arith) l
 
-outside : (m p : ℕ) → known m ≡ false → p < 12 → picked m p ≡ legAt m p
+outside : (m p : ℕ) → known m ≡ false → p < 8 → picked m p ≡ legAt m p
 unfolding rowDigits legAt
 outside m p u l = rw (unknown m u) (empty p l)
 
-pub leg-rule : (m p : ℕ) → p < 12 → picked m p ≡ legAt m p
+pub leg-rule : (m p : ℕ) → p < 8 → picked m p ≡ legAt m p
 leg-rule m p l = go (ltb m 23) (ltb m 36) refl refl
   where
     go : (a b : Bool) → ltb m 23 ≡ a → ltb m 36 ≡ b → picked m p ≡ legAt m p

@@ -1,9 +1,10 @@
 -- A method's routes stand in one row of places; a place is a number.
 -- Assumes nothing.
-use Prim.Native.Nat.{ℕ}
-use mathlib.Core.Bool.{Bool, true, false}
+use Prim.Native.Nat.{ℕ, _-_, _%_}
+use mathlib.Core.Bool.{Bool, true, false, cond, _&&_}
 use mathlib.Core.List.{List, [], _∷_, map}
 use mathlib.Core.Option.{Option, none, some}
+use lib.Dec.{leb, ltb}
 use lib.ListN.{getD}
 use Rattle.legs.specs.Legs.{Leg}
 use Rattle.legs.specs.Found.{Found}
@@ -21,17 +22,18 @@ rest (l ∷ ls) = ls
 abbrev four : List Leg → List Found → List Found
 four ls more = slot ls 0 ∷ slot ls 1 ∷ slot ls 2 ∷ slot ls 3 ∷ more
 
--- 0 to 3 are route a, 4 to 7 route b from its second leg on, 8 to 11 route c; none of these has more than three legs, so each ends in an
--- empty place
+-- 0 to 3 are route a, 4 to 7 route b from its second leg on; neither has more than three legs, so each ends in an empty place
 abbrev pub placesOf : Row → List Found
-placesOf r = four (r .a) (four (rest (r .b)) (four (r .c) []))
+placesOf r = four (r .a) (four (rest (r .b)) [])
 
--- the place that a limit turns to, and the first of route c, for a start on HOM
+-- the place that a limit turns to
 abbrev pub turnPlace : ℕ
 turnPlace = 4
 
-abbrev pub homePlace : ℕ
-homePlace = 8
+-- the first place of route c, for a start on HOM. No place is its own: it is a from the second leg on in 23 and 24, b from the third on in
+-- 25 and 26, in 27 to 30 likewise, and a itself in 33 and 34 (`home-from` of homing, computed for every method).
+abbrev pub homePlace : ℕ → ℕ
+homePlace method = cond (leb 23 method && leb method 30) (cond (ltb ((method - 23) % 4) 2) 1 5) 0
 
 abbrev pub legIn : Option Row → ℕ → Found
 legIn none place = found.Nothing

@@ -53,9 +53,9 @@ pub fn shown(wanted: Mode, shown: Mode, before: State, still: bool) -> Mode
     if asks & free { wanted } else { shown }
 }
 
-// Whether a command that wants a mode is matched by the shown one.
+// Whether a command that wants a mode is matched by the shown one. Asked of the shown one, "has no mode" is no fact of the command's branch.
 pub fn is_matched(wanted: Mode, shown: Mode) -> bool
     ensures { λ r. ⌜ r ≡ matchedOf wanted shown ⌝ }
 {
-    !is_mode(wanted, Mode::None) & is_mode(wanted, shown)
+    !is_mode(shown, Mode::None) & is_mode(wanted, shown)
 }

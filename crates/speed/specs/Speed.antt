@@ -4,11 +4,11 @@ use Prim.Native.Nat.{ℕ, _-_, _^_, min}
 use mathlib.Core.Bool.{Bool, cond}
 use lib.IntN.{ℤ, pos, negℤ}
 use Rattle.settings.specs.declared.Settings.{Settings}
-use Rattle.homing.specs.Phase.{Phase, Idle, Running, Homed, Failed}
+use Rattle.homing.specs.Phase.{Phase}
+use Rattle.homing.specs.Moving.{movingLeg}
 use Rattle.legs.specs.Legs.{Leg}
 use Rattle.legs.specs.Found.{Found}
 use Rattle.legs.specs.Found as found
-use Rattle.legs.specs.Places.{legAt}
 
 -- a magnitude with the sign of a direction. The least of it and 2 ^ 28 − 1 is a guard: in range it changes nothing (`proofs/Guard.antt`)
 unfoldable pub signedOf : Bool → ℕ → ℤ
@@ -22,12 +22,6 @@ abbrev pub foundSpeed : Settings → Found → ℤ
 foundSpeed s (found.Leg leg) = legSpeed s leg
 foundSpeed s found.Nothing = pos 0
 
--- the speed of the leg that runs after the tick
-abbrev pub phaseSpeed : Settings → Phase → ℤ
-phaseSpeed s Idle = pos 0
-phaseSpeed s (Running place) = foundSpeed s (legAt (s .method) place)
-phaseSpeed s Homed = pos 0
-phaseSpeed s Failed = pos 0
-
+-- the speed of the leg in which the axis moves after the tick
 abbrev pub speedOf : Settings → Phase → Bool → ℤ
-speedOf s phase halted = cond halted (pos 0) (phaseSpeed s phase)
+speedOf s phase halted = foundSpeed s (movingLeg (s .method) phase halted)

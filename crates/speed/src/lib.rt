@@ -1,12 +1,10 @@
-// The speed that a tick commands: that of the running homing leg.
+// The speed that a tick commands: that of the homing leg in which the axis moves.
 use settings::Settings;
 ghost use mathlib.Core.Path.{_≡_};
 ghost use mathlib.Core.Bool.{cond};
 ghost use Prim.Native.Nat.{_-_, _^_, min};
-ghost use Rattle.legs.specs.Places.{legAt};
-ghost use Rattle.legs.specs.Digits.{forwardIn, fastIn};
-ghost use Rattle.homing.specs.Phase.{phaseOf};
-ghost use Rattle.speed.specs.Speed.{signedOf, foundSpeed, speedOf};
+ghost use Rattle.legs.specs.Digits.{legInDigit, forwardIn, fastIn};
+ghost use Rattle.speed.specs.Speed.{signedOf, foundSpeed};
 
 // A speed is at most 2^28 - 1.
 fn capped(speed: u32) -> u32
@@ -35,24 +33,13 @@ fn leg_speed(s: Settings, leg: u32) -> i32
     }
 }
 
-fn running_speed(s: Settings, place: u32) -> i32
-    ensures { λ r. ⌜ r ≡ foundSpeed s (legAt (s .method) place) ⌝ }
+// The speed of a leg; where there is none, 0.
+pub fn speed(s: Settings, leg: u32) -> i32
+    ensures { λ r. ⌜ r ≡ foundSpeed s (legInDigit leg) ⌝ }
 {
-    let leg = legs::leg_at(s.method, place);
-    let found = legs::is_leg(leg);
-    if found { leg_speed(s, leg) } else { 0 }
-}
-
-// The speed of a tick that leaves homing in this phase.
-pub fn speed(s: Settings, phase: u32, halted: bool) -> i32
-    ensures { λ r. ⌜ r ≡ speedOf s (phaseOf phase) halted ⌝ }
-{
-    if halted {
-        return 0;
-    }
-    if phase < homing::RUNNING {
-        0
+    if legs::is_leg(leg) {
+        leg_speed(s, leg)
     } else {
-        running_speed(s, phase - homing::RUNNING)
+        0
     }
 }

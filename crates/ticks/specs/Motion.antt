@@ -39,16 +39,59 @@ freshMotion =
       position = pos 0;
     }
 
--- "homed and homing error are cleared, homing is idle; drive state, shown mode, alarm number and remembered inputs stay"
-abbrev pub idled : Motion → Motion
-idled a =
+-- motion with its parts replaced: the drive's, homing's phase, home, and the remembered inputs
+abbrev pub driven : Motion → State → Mode → ℕ → Motion
+driven a state mode alarm =
     record {
-      state = a .state;
-      mode = a .mode;
-      alarm = a .alarm;
-      phase = Idle;
+      state = state;
+      mode = mode;
+      alarm = alarm;
+      phase = a .phase;
       home = a .home;
       control = a .control;
       switches = a .switches;
       position = a .position;
     }
+
+abbrev pub phased : Motion → Phase → Motion
+phased a phase =
+    record {
+      state = a .state;
+      mode = a .mode;
+      alarm = a .alarm;
+      phase = phase;
+      home = a .home;
+      control = a .control;
+      switches = a .switches;
+      position = a .position;
+    }
+
+abbrev pub homeAt : Motion → ℤ → Motion
+homeAt a home =
+    record {
+      state = a .state;
+      mode = a .mode;
+      alarm = a .alarm;
+      phase = a .phase;
+      home = home;
+      control = a .control;
+      switches = a .switches;
+      position = a .position;
+    }
+
+abbrev pub fed : Motion → ℕ → Switches → ℤ → Motion
+fed a control switches position =
+    record {
+      state = a .state;
+      mode = a .mode;
+      alarm = a .alarm;
+      phase = a .phase;
+      home = a .home;
+      control = control;
+      switches = switches;
+      position = position;
+    }
+
+-- "homed and homing error are cleared, homing is idle; drive state, shown mode, alarm number and remembered inputs stay"
+abbrev pub idled : Motion → Motion
+idled a = phased a Idle

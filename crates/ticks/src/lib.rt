@@ -6,8 +6,10 @@ use position::Followed;
 use states::State;
 use torque::LimitSet;
 ghost use mathlib.Core.Path.{_≡_};
+ghost use Rattle.modes.specs.Modes.{matchedOf};
+ghost use Rattle.commands.specs.Commands.{modeOf};
 ghost use Rattle.ticks.specs.Rules.{homingOn};
-ghost use Rattle.ticks.specs.Moment.{homeAfter, targetOf};
+ghost use Rattle.ticks.specs.Moment.{targetOf};
 
 // The inputs of one tick.
 pub struct Tick {
@@ -22,35 +24,24 @@ pub struct Tick {
     pub alarm: u32,
 }
 
-// Homing is wanted and matched, and the drive in Operation enabled.
+// Homing is wanted and matched, and the drive in Operation enabled. Where a command is matched, the mode that it wants is the shown one.
 pub fn homing_on(wanted: Mode, mode: Mode, state: State) -> bool
     ensures { λ r. ⌜ r ≡ homingOn wanted mode state ⌝ }
 {
-    modes::is_mode(wanted, Mode::Homing)
-        & modes::is_matched(wanted, mode)
+    modes::is_matched(wanted, mode)
+        & modes::is_mode(mode, Mode::Homing)
         & states::in_state(state, State::OperationEnabled)
 }
 
-// Home is the position of the tick in which the axis becomes homed.
-pub fn home_after(home: i32, starting: bool, before: bool, after: bool, position: i32) -> i32
-    ensures { λ r. ⌜ r ≡ homeAfter home starting before after position ⌝ }
+// The target of a position command that is matched, enabled and homed.
+pub fn command_target(command: Command, mode: Mode, state: State, homed: bool) -> Followed
+    ensures { λ r. ⌜ r ≡ targetOf command (matchedOf (modeOf command) mode) state homed ⌝ }
 {
-    if after & (starting | !before) {
-        position
-    } else {
-        home
-    }
-}
-
-// The target of a position command.
-pub fn command_target(command: Command, matched: bool, state: State, homed: bool) -> Followed
-    ensures { λ r. ⌜ r ≡ targetOf command matched state homed ⌝ }
-{
-    match command {
-        Command::Hybrid(_) => Followed::Nothing,
-        Command::Homing(_) => Followed::Nothing,
-        Command::Position(target, _) => position::follow(matched, state, homed, target),
-        Command::Torque(_) => Followed::Nothing,
-        Command::Rest => Followed::Nothing,
-    }
+    let matched = modes::is_matched(commands::mode(command), mode);
+    position::follow(
+        matched & modes::is_mode(mode, Mode::Position),
+        state,
+        homed,
+        commands::target(command),
+    )
 }

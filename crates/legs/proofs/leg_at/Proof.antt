@@ -16,14 +16,8 @@ mul-result c = search needs
 sub-result : tie.Need-sub-result
 sub-result c = search needs
 
-cast-result : tie.Need-cast-result
-cast-result c = search needs
-
 shr-result : tie.Need-shr-result
 shr-result c = search needs
-
-cast-result-2 : tie.Need-cast-result-2
-cast-result-2 c = search needs
 
 returns : tie.Need-returns
 returns c = let x = c .before .before .args in rw (c .row-of .ensures) (leg-rule (x .method) (x .place) (c .before .if1 .taken))
@@ -35,4 +29,4 @@ returns-2 c = let x = c .before .args in sym (past (x .method) (x .place) (c .if
 pub leg-at-spec : {M : Type 1} → statement M
 leg-at-spec =
     tie.close
-    (tie.spec row-of-requires mul-result sub-result cast-result shr-result cast-result-2 returns returns-2)
+    (tie.spec row-of-requires mul-result sub-result shr-result returns returns-2)

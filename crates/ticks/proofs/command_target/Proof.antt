@@ -1,60 +1,41 @@
--- `command_target` meets its contract.
+-- `ticks::command_target` meets its contract: where a command is matched, the shown mode is the wanted one.
 -- Assumes nothing.
+use mathlib.Core.Path.{_∙_}
 use mir.Facts.{toZ-ofZ}
 use mir.Syntax.{w32}
 use mir.Val.{SFits}
+use Rattle.ticks.proofs.Target.{target-of}
 use borrow.Author.Needs.{needs}
 use Rattle.ticks.proofs.command_target.Statement.{statement}
 use Rattle.ticks.proofs.command_target.Tie as tie
 
-enum-told : tie.Need-enum-told
-enum-told c = search needs
+mode-requires : tie.Need-mode-requires
+mode-requires c κs = search needs
 
-enum-told-2 : tie.Need-enum-told-2
-enum-told-2 c = search needs
+is-matched-requires : tie.Need-is-matched-requires
+is-matched-requires c κs = search needs
 
-enum-known-command : tie.Need-enum-known-command
-enum-known-command c = search needs
+is-mode-requires : tie.Need-is-mode-requires
+is-mode-requires c κs = search needs
+
+target-requires : tie.Need-target-requires
+target-requires c κs = search needs
 
 follow-requires : tie.Need-follow-requires
 follow-requires c κs = search needs
 
-enum-told-3 : tie.Need-enum-told-3
-enum-told-3 c = search needs
-
-enum-told-4 : tie.Need-enum-told-4
-enum-told-4 c = search needs
-
 returns : tie.Need-returns
-returns c = search needs
-
-returns-2 : tie.Need-returns-2
-returns-2 c = search needs
-
-returns-3 : tie.Need-returns-3
-returns-3 c =
-    let k = c .before .before in
-    let t : SFits w32 (k .command .given .0 .0) = search needs in
-    rw (c .follow .ensures, k .command .given .1, toZ-ofZ t)
-
-returns-4 : tie.Need-returns-4
-returns-4 c = search needs
-
-returns-5 : tie.Need-returns-5
-returns-5 c = search needs
+returns c =
+    let t = c .before in
+    let i = t .before in
+    let m = i .before in
+    let x = m .before .before .args in
+    let r : SFits w32 (t .target .result) = search needs in
+    c .follow .ensures
+    ∙ rw (toZ-ofZ r, t .target .ensures, i .is-mode .ensures, m .is-matched .ensures, m .before .mode .ensures)
+    (target-of (x .state) (x .homed) (x .command) (x .mode))
 
 pub command-target-spec : {M : Type 1} → statement M
 command-target-spec =
     tie.close
-    (tie.spec
-    enum-told
-    enum-told-2
-    enum-known-command
-    follow-requires
-    enum-told-3
-    enum-told-4
-    returns
-    returns-2
-    returns-3
-    returns-4
-    returns-5)
+    (tie.spec mode-requires is-matched-requires is-mode-requires target-requires follow-requires returns)

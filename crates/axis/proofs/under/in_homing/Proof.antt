@@ -1,36 +1,125 @@
--- `axis::under::in_homing` meets its contract.
+-- `axis::under::in_homing` meets its contract: homing starts, steps, or stays as it is.
 -- Assumes nothing.
-use mathlib.Core.Path.{_∙_}
-use mathlib.Core.Bool.{true}
+use Prim.Native.Nat.{ℕ}
+use mathlib.Core.Path.{_≡_, sym, ap, _∙_}
+use mathlib.Core.Bool.{true, false, not, _&&_, _||_, or-true}
 use Rattle.patterns.proofs.Numbers.{read32}
-use Rattle.axis.proofs.Branches.{bits-of-tick, settled}
+use Rattle.control.specs.Control.{rises}
+use Rattle.legs.specs.declared.events.Switches.{Switches}
+use Rattle.homing.specs.Phase.{Phase, homedIn, runningIn}
+use Rattle.homing.specs.Moving.{Stands}
+use Rattle.cells.specs.Cells.{settingsIn, motionIn}
+use Rattle.axis.specs.Calls.{phaseBy}
+use Rattle.axis.proofs.Branches.{bits-of-tick, starts, steps, arrives, fresh-start, fresh-step, rests}
 use borrow.Author.Needs.{needs}
 use Rattle.axis.proofs.under.in_homing.Statement.{statement}
 use Rattle.axis.proofs.under.in_homing.Tie as tie
 
-phase-after-requires : tie.Need-phase-after-requires
-phase-after-requires c κs = search needs
+method-requires : tie.Need-method-requires
+method-requires c κs = search needs
 
-home-after-requires : tie.Need-home-after-requires
-home-after-requires c κs = search needs
+control-requires : tie.Need-control-requires
+control-requires c κs = search needs
+
+rising-requires : tie.Need-rising-requires
+rising-requires c κs = search needs
+
+home-on-requires : tie.Need-home-on-requires
+home-on-requires c κs = search needs
+
+bit-requires : tie.Need-bit-requires
+bit-requires c κs = search needs
+
+start-requires : tie.Need-start-requires
+start-requires c κs = search needs
+
+settle-requires : tie.Need-settle-requires
+settle-requires c κs = search needs
 
 returns : tie.Need-returns
 returns c =
-    let h = c .before in
-    let p = h .before in
-    let s = p .before in
-    let b = s .args in
-    settled
-    (b .axis .now)
-    (b .t)
-    true
-    (b .state)
-    (b .mode)
-    (b .alarm)
-    (p .phase-after .ensures)
-    (read32 (h .home-after .result) (h .home-after .ok) ∙ h .home-after .ensures)
-    (bits-of-tick (b .t) (b .switches) (s .pre))
-    (read32 (b .t .position) (c .struct-told .given .1 .1 .0 .1))
+    let s = c .before .before .before in
+    let d = s .before in
+    let h = d .before in
+    let i = h .before in
+    let k = i .before .before in
+    let m = k .before .before in
+    let b = m .before .before in
+    let l = b .args .axis .now in
+    let t = b .args .t in
+    let rising = sym (i .before .rising .ensures ∙ ap (λ (n : ℕ). rises n (t .control) 4) (k .control .ensures)) ∙ i .if1 .taken in
+    let home = h .home-on .ensures ∙ ap (λ (x : Switches). x .home) (bits-of-tick t (b .args .switches) (b .pre)) in
+    arrives l t (c .settle .last .0) _ (s .start .result)
+    (starts l t (m .method .ensures) rising home (d .bit .ensures) (s .start .ensures))
+    (fresh-start (homedIn (motionIn l .phase)) rising)
+    (read32 (t .position) (c .before .struct-told .given .1 .1 .0 .1))
+    (c .settle .ensures .0)
+    (read32 (c .settle .result) (c .settle .ok) ∙ c .settle .ensures .1)
+
+phase-requires : tie.Need-phase-requires
+phase-requires c κs = search needs
+
+is-running-requires : tie.Need-is-running-requires
+is-running-requires c κs = search needs
+
+seen-requires : tie.Need-seen-requires
+seen-requires c κs = c .before .before .before .before .before .before .before .before .before .before .before .pre
+
+step-requires : tie.Need-step-requires
+step-requires c κs = search needs
+
+settle-requires-2 : tie.Need-settle-requires-2
+settle-requires-2 c κs = search needs
+
+returns-2 : tie.Need-returns-2
+returns-2 c =
+    let s = c .before .before .before in
+    let n = s .before in
+    let u = n .before .before in
+    let p = u .before .before in
+    let i = p .before .before in
+    let k = i .before .before in
+    let m = k .before .before in
+    let b = m .before .before in
+    let l = b .args .axis .now in
+    let t = b .args .t in
+    let a = motionIn l in
+    let rising = sym (i .before .rising .ensures ∙ ap (λ (n : ℕ). rises n (t .control) 4) (k .control .ensures)) ∙ i .if1 .left in
+    let running = sym (u .before .is-running .ensures ∙ ap runningIn (p .phase .ensures)) ∙ u .if2 .taken in
+    arrives l t (c .settle2 .last .0) _ (s .step .result)
+    (steps l t (m .method .ensures) rising (p .phase .ensures) (n .seen .ensures) (s .step .ensures))
+    (fresh-step (rises (a .control) (t .control) 4) (a .phase) running)
+    (read32 (t .position) (c .before .struct-told2 .given .1 .1 .0 .1))
+    (c .settle2 .ensures .0)
+    (read32 (c .settle2 .result) (c .settle2 .ok) ∙ c .settle2 .ensures .1)
+
+returns-3 : tie.Need-returns-3
+returns-3 c =
+    let u = c .before in
+    let p = u .before in
+    let i = p .before .before in
+    let k = i .before .before in
+    let b = k .before .before .before .before .args in
+    let rising = sym (i .before .rising .ensures ∙ ap (λ (n : ℕ). rises n (b .t .control) 4) (k .control .ensures)) ∙ i .if1 .left in
+    let running = sym (u .is-running .ensures ∙ ap runningIn (p .phase .ensures)) ∙ c .if2 .left in
+    rests (b .axis .now) (b .t) rising running
 
 pub in-homing-spec : {M : Type 1} → statement M
-in-homing-spec = tie.close (tie.spec phase-after-requires home-after-requires returns)
+in-homing-spec =
+    tie.close
+    (tie.spec
+    method-requires
+    control-requires
+    rising-requires
+    home-on-requires
+    bit-requires
+    start-requires
+    settle-requires
+    returns
+    phase-requires
+    is-running-requires
+    seen-requires
+    step-requires
+    settle-requires-2
+    returns-2
+    returns-3)

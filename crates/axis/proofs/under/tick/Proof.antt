@@ -1,14 +1,14 @@
 -- `axis::under::tick` meets its contract.
 -- Assumes nothing.
-use mathlib.Core.Path.{_≡_, ap, ap₂, _∙_}
+use mathlib.Core.Path.{_≡_, ap, _∙_}
+use Rattle.patterns.proofs.Numbers.{read32}
+use Rattle.states.specs.States.{liveOf}
 use Rattle.commands.specs.declared.Demand.{Demand}
 use Rattle.commands.specs.Commands.{demandOf, alarmOf}
-use Rattle.ticks.specs.Motion.{Motion}
 use Rattle.ticks.specs.Rules.{demandIn}
-use Rattle.ticks.specs.Moment.{momentAt}
-use Rattle.answers.specs.Answer.{answerIn, answeredIn}
-use Rattle.rules.specs.Axis.{Axis}
-use Rattle.cells.specs.Cells.{settingsIn, motionIn, axisIn}
+use Rattle.cells.specs.Cells.{settingsIn}
+use Rattle.axis.proofs.Branches.{bits-of-tick}
+use Rattle.axis.proofs.Ticked.{ran}
 use borrow.Author.Needs.{needs}
 use Rattle.axis.proofs.under.tick.Statement.{statement}
 use Rattle.axis.proofs.under.tick.Tie as tie
@@ -28,46 +28,73 @@ mode-requires c κs = search needs
 alarms-requires : tie.Need-alarms-requires
 alarms-requires c κs = search needs
 
-motion-after-requires : tie.Need-motion-after-requires
-motion-after-requires c κs =
+drive-after-requires : tie.Need-drive-after-requires
+drive-after-requires c κs =
     let w = c .before .before in
     let d = w .before in
-    let b = d .before .before .before in
-    let t = b .before .before .args .t in
+    let t = d .before .before .before .before .before .args .t in
     let demand = d .torque-demand .ensures ∙ ap (demandOf (t .command)) (d .before .rated .ensures) in
-    (b .switch-bits .ensures, (w .mode .ensures, c .alarms .ensures ∙ ap (λ (x : Demand). alarmOf x (t .alarm)) demand))
+    (w .mode .ensures, c .alarms .ensures ∙ ap (λ (x : Demand). alarmOf x (t .alarm)) demand)
+
+is-live-requires : tie.Need-is-live-requires
+is-live-requires c κs = search needs
+
+is-matched-requires : tie.Need-is-matched-requires
+is-matched-requires c κs = search needs
+
+torque-in-requires : tie.Need-torque-in-requires
+torque-in-requires c κs = search needs
+
+put-drive-requires : tie.Need-put-drive-requires
+put-drive-requires c κs = search needs
+
+homing-on-requires : tie.Need-homing-on-requires
+homing-on-requires c κs = search needs
+
+home-requires : tie.Need-home-requires
+home-requires c κs = search needs
+
+put-inputs-requires : tie.Need-put-inputs-requires
+put-inputs-requires c κs = search needs
 
 answer-requires : tie.Need-answer-requires
 answer-requires c κs =
-    let m = c .before in
-    (ap (λ (x : Motion). x .switches) (m .motion-after .ensures), m .before .before .before .mode .ensures)
-
-put-motion-requires : tie.Need-put-motion-requires
-put-motion-requires c κs = search needs
-
--- an axis with another motion
-abbrev moving : Axis → Motion → Axis
-moving a m = record { active = a .active; pending = a .pending; motion = m }
+    c .before .before .before .before .before .before .before .before .before .before .before .before .before .before .before .before .before .before .before .before .switch-bits .ensures
 
 returns : tie.Need-returns
-unfolding answeredIn
 returns c =
-    let a = c .before .before in
-    let m = a .before .before in
-    let d = m .before .before .before .before in
-    let b = d .before .before .before .before .before .args in
+    let i = c .before .before in
+    let h = i .before .before .before in
+    let o = h .before in
+    let p = o .before .before in
+    let q = p .before .before in
+    let u = q .before .before in
+    let v = u .before in
+    let d = v .before in
+    let x = d .before in
+    let w = x .before .before in
+    let e = w .before in
+    let g = e .before in
+    let sb = g .before .before in
+    let b = sb .before .before .args in
     let l = b .axis .now in
-    let demand : d .torque-demand .result ≡ demandIn (settingsIn l) (b .t) = d .torque-demand .ensures ∙ ap (demandOf (b .t .command)) (d .before .rated .ensures) in
-    let next = m .motion-after .ensures in
-    record {
-      axis =
-          c .put-motion .ensures .axis
-          ∙ ap (moving (axisIn l)) next;
-      answer =
-          a .answer .ensures
-          ∙ ap₂ (λ (x : Motion) (y : Demand). answerIn (settingsIn l) (b .t) (momentAt (motionIn l) (b .t) x y)) next demand;
-      kept = c .put-motion .ensures .kept;
-    }
+    let t = b .t in
+    let demand : e .torque-demand .result ≡ demandIn (settingsIn l) t = e .torque-demand .ensures ∙ ap (demandOf (t .command)) (g .rated .ensures) in
+    ran l (p .put-drive .last .0) (h .home .last .0) (i .put-inputs .last .0) t
+    (w .mode .ensures)
+    demand
+    (x .alarms .ensures ∙ ap (λ (y : Demand). alarmOf y (t .alarm)) demand)
+    (d .drive-after .ensures .0)
+    (d .drive-after .ensures .1 .0)
+    (d .drive-after .ensures .1 .1)
+    (q .torque-in .ensures ∙ rw (v .is-live .ensures, u .is-matched .ensures))
+    (p .put-drive .ensures)
+    (o .homing-on .ensures)
+    (h .home .ensures)
+    (bits-of-tick t (sb .switch-bits .result) (sb .switch-bits .ensures))
+    (read32 (t .position) (i .before .struct-told .given .1 .1 .0 .1))
+    (i .put-inputs .ensures)
+    (c .answer .ensures ∙ rw (read32 (q .torque-in .result) (q .torque-in .ok), read32 (h .home .result) (h .home .ok)))
 
 pub tick-spec : {M : Type 1} → statement M
 tick-spec =
@@ -78,7 +105,13 @@ tick-spec =
     torque-demand-requires
     mode-requires
     alarms-requires
-    motion-after-requires
+    drive-after-requires
+    is-live-requires
+    is-matched-requires
+    torque-in-requires
+    put-drive-requires
+    homing-on-requires
+    home-requires
+    put-inputs-requires
     answer-requires
-    put-motion-requires
     returns)
