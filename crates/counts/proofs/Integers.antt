@@ -1,17 +1,18 @@
 -- Signed numbers as the machine holds them, and bounds on their sums, differences and products. `mag z` is n for n and for −(n + 1).
 -- Assumes nothing.
-use mathlib.Core.Path.{_≡_}
+use mathlib.Core.Path.{_≡_, refl, ap}
 use mathlib.Core.Bool.{Bool, true, false, cond}
 use Prim.Native.Nat.{ℕ, zero, suc, _+_, _-_, _*_, _^_, _≤_, _<_}
-use native.Mathlib.Nat.{mul-le-mul}
+use native.Mathlib.Nat.{zero-add, mul-le-mul}
 use native.Mathlib.Omega.{arith}
 use lib.Dec.{ltb}
 use lib.IntN.{ℤ, pos, negsuc, negℤ, _+ℤ_, _-ℤ_, _*ℤ_}
 use lib.Signed.{mag}
 use mir.Facts.{toZ-ofZ}
-use mir.Syntax.{w32, w64}
+use mir.Syntax.{Width, w32, w64}
 use mir.Val.{SFits, toZ, ofZ}
 use mir.ValLaws.{toZ-pos}
+use borrow.Author.Tests.{le-ltb}
 
 -- an i32 read as an i64, and a u32 read as an i64
 pub widen : {z : ℤ} → SFits w32 z → SFits w64 z
@@ -70,3 +71,18 @@ mag-mul (pos a) k m n p q = mul-le-mul (omega arith) q
 mag-mul (negsuc a) k m n p q =
     let h : suc a * k ≤ m * n = mul-le-mul (omega arith) q in
     omega (arith, mag-neg-pos (suc a * k))
+
+-- −1 less z: it turns the negative numbers into the others and back
+pub mirror-down : (n : ℕ) → negsuc 0 -ℤ negsuc n ≡ pos n
+mirror-down n = rw (le-ltb (suc n) 1 (omega arith)) (ap pos (omega arith))
+
+pub mirror-up : (n : ℕ) → negsuc 0 -ℤ pos n ≡ negsuc n
+mirror-up zero = refl
+mirror-up (suc n) = ap (λ (k : ℕ). negsuc (suc k)) (zero-add n)
+
+mag-mirror : (z : ℤ) → mag (negsuc 0 -ℤ z) ≡ mag z
+mag-mirror (pos n) = rw (mirror-up n)
+mag-mirror (negsuc n) = rw (mirror-down n)
+
+pub mirror-fits : {w : Width} {z : ℤ} → SFits w z → SFits w (negsuc 0 -ℤ z)
+mirror-fits {w} {z} h = record { sfits = rw (mag-mirror z) (h .sfits) }

@@ -5,12 +5,13 @@ use mathlib.Core.Bool.{Bool, true, false, cond}
 use Prim.Native.Nat.{ℕ, suc, _+_, _-_, _*_, _%_, _^_, _≤_, _<_}
 use native.Mathlib.Omega.{arith}
 use lib.Dec.{ltb}
-use lib.IntN.{ℤ, pos, negsuc, subℕ, _+ℤ_}
+use lib.IntN.{ℤ, pos, negsuc, subℕ, _+ℤ_, _-ℤ_}
 use lib.Signed.{shrZ}
 use mir.Syntax.{w32, w64}
 use mir.Val.{SFits, toZ, ofZ}
 use borrow.Author.Tests.{lt-ltb, le-ltb, ltb-true, ltb-false}
 use Rattle.counts.specs.Wrap.{modulo, signed, wrapped}
+use Rattle.counts.proofs.Integers.{mirror-up, mirror-down}
 
 pub modulo-below : (z : ℤ) → modulo 32 z < 2 ^ 32
 unfolding modulo
@@ -82,3 +83,16 @@ unfolding wrapped
 wrapped-sum a b =
     ap (signed 32)
     (modulo-add a (wrapped b) ∙ ap (λ (n : ℕ). (modulo 32 a + n) % 2 ^ 32) (modulo-wrapped b) ∙ sym (modulo-add a b))
+
+-- a number may be taken modulo 2 ^ 32 first
+pub wrapped-low : (n : ℕ) → wrapped (pos (n % 2 ^ 32)) ≡ wrapped (pos n)
+unfolding wrapped modulo
+wrapped-low n = ap (signed 32) (omega arith)
+
+-- −1 less z, which is z with every bit turned, may be taken before or after
+pub wrapped-mirror : (n : ℕ) → negsuc 0 -ℤ wrapped (pos n) ≡ wrapped (negsuc n)
+unfolding wrapped modulo
+wrapped-mirror n =
+    signed-is (λ y. negsuc 0 -ℤ y ≡ signed 32 (2 ^ 32 - suc (n % 2 ^ 32))) (n % 2 ^ 32) (omega arith)
+    (λ h. rw (mirror-up (n % 2 ^ 32), signed-high (2 ^ 32 - suc (n % 2 ^ 32)) (omega arith) (omega arith)) (ap negsuc (omega arith)))
+    (λ h. rw (mirror-down (2 ^ 32 - suc (n % 2 ^ 32)), signed-low (2 ^ 32 - suc (n % 2 ^ 32)) (omega arith)))

@@ -1,12 +1,10 @@
-// Encoder counts and other whole numbers of the axis: wrapping difference and sum, floor division, clamp, a bit of a word.
+// Encoder counts and other whole numbers of the axis: wrapping difference and sum, clamp, a bit of a word.
 //
 // Counts are signed 32-bit and wrap around. Every function answers every value of its arguments.
 ghost use mathlib.Core.Path.{_≡_};
-ghost use Prim.Native.Nat.{max};
 ghost use lib.IntN.{_+ℤ_, _-ℤ_};
 ghost use Rattle.counts.specs.Wrap.{wrapped};
 ghost use Rattle.counts.specs.Movement.{movementOf};
-ghost use Rattle.counts.specs.Divide.{floorDiv};
 ghost use Rattle.counts.specs.Clamp.{clamped};
 ghost use Rattle.counts.specs.Bit.{bitOf};
 
@@ -47,26 +45,10 @@ pub fn moved(now: i32, before: i32) -> Movement
 }
 
 // base and count, added modulo 2^32 and read as signed.
-pub fn sum(base: i32, count: i64) -> i32
+pub fn sum(base: i32, count: i32) -> i32
     ensures { λ r. ⌜ r ≡ wrapped (base +ℤ count) ⌝ }
 {
-    let low = wrap(count);
-    wrap(base as i64 + low as i64)
-}
-
-// A divisor is at least 1.
-fn divisor(d: u32) -> u32
-    ensures { λ r. ⌜ r ≡ max 1 d ⌝ }
-{
-    if d == 0 { 1 } else { d }
-}
-
-// x over d, rounded towards minus infinity; over 1 where d is 0.
-pub fn floor_div(x: i64, d: u32) -> i64
-    ensures { λ r. ⌜ r ≡ floorDiv x (max 1 d) ⌝ }
-{
-    let e = divisor(d) as i64;
-    if x >= 0 { x / e } else { -1 - (-1 - x) / e }
+    wrap(base as i64 + count as i64)
 }
 
 // x, or the bound that it is beyond.

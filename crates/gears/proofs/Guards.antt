@@ -8,7 +8,7 @@ use borrow.Author.Tests.{leb-true}
 use lib.Dec.{leb}
 use Rattle.settings.specs.declared.Settings.{Settings}
 use Rattle.settings.specs.Ranges.{inRange}
-use Rattle.gears.specs.Gear.{cappedNumerator, positiveDenominator}
+use Rattle.gears.specs.Gear.{cappedNumerator, divisorOf}
 use Rattle.settings.proofs.Within.{within, both}
 
 module _ (s : Settings) (e : inRange s ≡ true) where
@@ -17,7 +17,7 @@ module _ (s : Settings) (e : inRange s ≡ true) where
       let b = both (leb 1 (s .numerator)) (leb (s .numerator) (2 ^ 20)) (within s e .numerator) in
       omega (arith, leb-true (s .numerator) (2 ^ 20) (b .1))
 
-  pub denominator-kept : positiveDenominator s ≡ s .denominator
+  pub denominator-kept : divisorOf (s .denominator) ≡ s .denominator
   denominator-kept =
       let b = both (leb 1 (s .denominator)) (leb (s .denominator) (2 ^ 20)) (within s e .denominator) in
-      omega (arith, leb-true 1 (s .denominator) (b .0))
+      omega (arith, leb-true 1 (s .denominator) (b .0), leb-true (s .denominator) (2 ^ 20) (b .1))

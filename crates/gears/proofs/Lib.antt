@@ -1,3 +1,4 @@
+pub mod Digits
 pub mod Guards
 pub mod Product
 pub mod Reach

@@ -1,9 +1,10 @@
--- Products in 64 bits: the difference of two 32-bit numbers, times at most 2 ^ 20, fits, and so does an i32 times a u32.
+-- Products in 64 bits: the difference of two 32-bit numbers, times at most 2 ^ 20, fits and is small, and an i32 times a u32 fits.
 -- Assumes nothing.
-use Prim.Native.Nat.{ℕ, _+_, _-_, _^_, _≤_}
+use Prim.Native.Nat.{ℕ, _+_, _-_, _^_, _≤_, _<_}
 use mathlib.Core.Path.{_≡_, _∙_}
 use native.Mathlib.Omega.{arith}
 use lib.IntN.{ℤ, pos, _-ℤ_, _*ℤ_}
+use lib.Signed.{mag}
 use mir.Facts.{toZ-ofZ}
 use mir.Syntax.{w32, w64}
 use mir.Val.{Fits, SFits, toZ, ofZ}
@@ -17,16 +18,19 @@ module _ {a b : ℤ} {k : ℕ} (f : SFits w32 a) (g : SFits w32 b) (h : k ≤ 2 
   computes : computed a b k ≡ (a -ℤ b) *ℤ pos k
   computes = rw (read-wide f, read-wide g, toZ-ofZ (sub-fits f g), read-unsigned k (omega arith))
 
-  fits : SFits w64 ((a -ℤ b) *ℤ pos k)
-  fits =
-      let small = mag-sub a b (2 ^ 32 + 2) (omega (arith, f .sfits, g .sfits)) in
-      record { sfits = omega (arith, mag-mul (a -ℤ b) k (2 ^ 32 + 2) (2 ^ 20) small h) }
+  small : mag ((a -ℤ b) *ℤ pos k) < 2 ^ 56
+  small =
+      let difference = mag-sub a b (2 ^ 32 + 2) (omega (arith, f .sfits, g .sfits)) in
+      omega (arith, mag-mul (a -ℤ b) k (2 ^ 32 + 2) (2 ^ 20) difference h)
 
   pub product-fits : SFits w64 (computed a b k)
-  product-fits = rw computes fits
+  product-fits = rw computes (record { sfits = omega (arith, small) })
 
   pub product-read : toZ w64 (ofZ w64 (computed a b k)) ≡ (a -ℤ b) *ℤ pos k
   product-read = toZ-ofZ product-fits ∙ computes
+
+  pub product-small : mag (toZ w64 (ofZ w64 (computed a b k))) < 2 ^ 56
+  product-small = rw product-read small
 
 -- a bound of the count times the denominator
 pub times-fits : {z : ℤ} {d : ℕ} → SFits w32 z → Fits w32 d → SFits w64 (z *ℤ toZ w64 d)

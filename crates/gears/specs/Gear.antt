@@ -13,11 +13,11 @@ use Rattle.settings.specs.declared.Settings.{Settings}
 abbrev pub cappedNumerator : Settings → ℕ
 cappedNumerator s = min (s .numerator) (2 ^ 20)
 
-abbrev pub positiveDenominator : Settings → ℕ
-positiveDenominator s = max 1 (s .denominator)
+abbrev pub divisorOf : ℕ → ℕ
+divisorOf denominator = max 1 (min denominator (2 ^ 20))
 
 unfoldable pub gearedOf : Settings → ℤ → ℤ
-gearedOf s position = floorDiv ((position -ℤ s .offset) *ℤ pos (cappedNumerator s)) (positiveDenominator s)
+gearedOf s position = floorDiv ((position -ℤ s .offset) *ℤ pos (cappedNumerator s)) (divisorOf (s .denominator))
 
 -- not "beyond ±2^30 counts"
 abbrev pub withinReach : Settings → ℤ → Bool

@@ -1,4 +1,4 @@
--- `gears::geared` meets its contract: what it divides fits 64 bits (`Product`).
+-- `gears::geared` meets its contract: what it divides is within 2 ^ 56 (`Product`).
 -- Assumes nothing.
 use Prim.Native.Nat.{_^_, _≤_}
 use mathlib.Core.Path.{_∙_}
@@ -8,7 +8,7 @@ use mir.Syntax.{w32}
 use mir.Val.{SFits}
 use Rattle.counts.proofs.Integers.{cast-fits, sub-read-fits}
 use Rattle.gears.specs.Gear.{gearedOf}
-use Rattle.gears.proofs.Product.{product-fits, product-read}
+use Rattle.gears.proofs.Product.{product-fits, product-read, product-small}
 use borrow.Author.Needs.{needs}
 use Rattle.gears.proofs.geared.Statement.{statement}
 use Rattle.gears.proofs.geared.Tie as tie
@@ -25,24 +25,31 @@ sub-units c = search (sub-read-fits, needs)
 capped-requires : tie.Need-capped-requires
 capped-requires c κs = search needs
 
-cast-floor-div : tie.Need-cast-floor-div
-cast-floor-div c = search needs
+cast-floored : tie.Need-cast-floored
+cast-floored c = search needs
 
-mul-floor-div : tie.Need-mul-floor-div
-mul-floor-div c = let h : c .capped .result ≤ 2 ^ 20 = omega arith in search (product-fits, needs)
+mul-floored : tie.Need-mul-floored
+mul-floored c = let h : c .capped .result ≤ 2 ^ 20 = omega arith in search (product-fits, needs)
 
-floor-div-requires : tie.Need-floor-div-requires
-floor-div-requires c κs = search needs
+divisor-requires : tie.Need-divisor-requires
+divisor-requires c κs = search needs
+
+floored-requires : tie.Need-floored-requires
+floored-requires c κs =
+    let b = c .before in
+    let s = b .before .before .before in
+    let offset : SFits w32 (s .args .s .offset) = search needs in
+    (product-small {k = b .capped .result} (s .fits .position) offset (omega arith), omega arith, omega arith)
 
 returns : tie.Need-returns
 unfolding gearedOf
 returns c =
-    let b = c .before in
+    let b = c .before .before in
     let s = b .before .before .before in
     let offset : SFits w32 (s .args .s .offset) = search needs in
-    toZ-ofZ {z = c .floor-div .result} (search needs)
-    ∙ c .floor-div .ensures
-    ∙ rw (product-read {k = b .capped .result} (s .fits .position) offset (omega arith), b .capped .ensures)
+    toZ-ofZ {z = c .floored .result} (search needs)
+    ∙ c .floored .ensures
+    ∙ rw (product-read {k = b .capped .result} (s .fits .position) offset (omega arith), b .capped .ensures, c .before .divisor .ensures)
 
 pub geared-spec : {M : Type 1} → statement M
 geared-spec =
@@ -52,7 +59,8 @@ geared-spec =
     cast-units-2
     sub-units
     capped-requires
-    cast-floor-div
-    mul-floor-div
-    floor-div-requires
+    cast-floored
+    mul-floored
+    divisor-requires
+    floored-requires
     returns)

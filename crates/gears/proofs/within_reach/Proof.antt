@@ -32,8 +32,8 @@ cast-product-3 c = search needs
 mul-product : tie.Need-mul-product
 mul-product c = let h : c .capped .result ≤ 2 ^ 20 = omega arith in search (product-fits, needs)
 
-positive-requires : tie.Need-positive-requires
-positive-requires c κs = search needs
+divisor-requires : tie.Need-divisor-requires
+divisor-requires c κs = search needs
 
 cast-d : tie.Need-cast-d
 cast-d c = search needs
@@ -50,14 +50,14 @@ returns c =
     let b = c .before in
     let s = b .before .before .before in
     let offset : SFits w32 (s .args .s .offset) = search needs in
-    let d = c .positive .result in
+    let d = c .divisor .result in
     rw (
       product-read {k = b .capped .result} (s .fits .position) offset (omega arith),
       toZ-ofZ (mul-result c),
       toZ-ofZ (mul-result-2 c),
       read-unsigned d (search needs),
       ← b .capped .ensures,
-      ← c .positive .ensures,
+      ← c .divisor .ensures,
     )
     (sym (within d (omega arith) _ (2 ^ 30)))
 
@@ -71,7 +71,7 @@ within-reach-spec =
     capped-requires
     cast-product-3
     mul-product
-    positive-requires
+    divisor-requires
     cast-d
     mul-result
     mul-result-2
