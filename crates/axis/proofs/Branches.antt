@@ -2,7 +2,7 @@
 -- Assumes nothing.
 use Prim.Native.Nat.{ℕ}
 use mathlib.Core.Path.{_≡_, refl, sym, ap, ap₂, subst, _∙_}
-use mathlib.Core.Bool.{Bool, true, false, not, cond, _&&_, _||_, and-true, and-false, or-true, true≢false}
+use mathlib.Core.Bool.{Bool, true, false, not, cond, _&&_, _||_, and-true, and-false, or-true, and-not-self, true≢false}
 use mathlib.Core.List.{List}
 use lib.Dec.{eqb}
 use lib.IntN.{ℤ, pos, _-ℤ_}
@@ -12,7 +12,6 @@ use Rattle.counts.specs.declared.Movement.{Movement}
 use Rattle.counts.specs.Movement.{movementOf}
 use Rattle.settings.specs.declared.Settings.{Settings}
 use Rattle.settings.specs.declared.Refusal.the-variants.{NoSettings}
-use Rattle.states.specs.States.{liveOf}
 use Rattle.control.specs.Control.{rises}
 use Rattle.modes.specs.Modes.{modeNumber}
 use Rattle.commands.specs.declared.Demand.{Demand}
@@ -36,10 +35,10 @@ use Rattle.position.specs.Position.{positionOf, clampedOf}
 use Rattle.status.specs.Statusword.{flagsIn, limitedOf, statuswordOf}
 use Rattle.ticks.specs.declared.Tick.{Tick}
 use Rattle.ticks.specs.Motion.{Motion, phased, homeAt}
-use Rattle.ticks.specs.Rules.{matchedIn, viewWith}
-use Rattle.ticks.specs.Moment.{phaseAfter, homeAfter, targetOf, momentAt}
+use Rattle.ticks.specs.Rules.{matchedIn, demandIn, viewWith}
+use Rattle.ticks.specs.After.{phaseAfter, phaseBy, homeAfter, homeBy, targetOf}
 use Rattle.answers.specs.declared.Answer.{Answer}
-use Rattle.answers.specs.Answer.{refusedAnswer, isFollowing, answerIn}
+use Rattle.answers.specs.Answer.{refusedAnswer, isFollowing, torqueOn, answerBy, answerIn}
 use Rattle.rules.specs.Axis.{Active, Set}
 use Rattle.rules.specs.Axis as axis
 use Rattle.rules.specs.Tick.{tickOf}
@@ -48,7 +47,7 @@ use Rattle.patterns.proofs.Back.{bits-back}
 use Rattle.cells.specs.Cells.{settingsIn, activeIn, motionIn, axisIn}
 use Rattle.cells.specs.Writes.{Moved}
 use Rattle.cells.proofs.Moved.{motion-moved, moved-again, unmoved}
-use Rattle.axis.specs.Calls.{phaseBy, homeBy, homedBy, Homes, arrived, answerBy, TickCall, Runs}
+use Rattle.axis.specs.Calls.{homingBy, Homes, arrived, TickCall, Runs}
 
 -- the tick's switches, by their bits
 pub bits-of-tick : (t : Tick) (bits : ℕ) → bits ≡ switchBits (t .switches) → switchesIn bits ≡ t .switches
@@ -110,7 +109,7 @@ arrives l t m v r {x} stands fresh position moved speed =
     let p = phaseBy s a t true in
     let home : homeBy a t true p ≡ cond (homedIn p) (t .position) (a .home) =
     ap (λ (b : Bool). cond (homedIn p && b) (t .position) (a .home)) fresh ∙ ap (λ (b : Bool). cond b (t .position) (a .home)) (and-true (homedIn p)) in
-    let after : arrived a (phaseOf (r .phase)) x ≡ homedBy s a t true = ap₂ (arrived a) (stands .phase) position ∙ ap (homeAt (phased a p)) (sym home) in
+    let after : arrived a (phaseOf (r .phase)) x ≡ homingBy s a t true = ap₂ (arrived a) (stands .phase) position ∙ ap (homeAt (phased a p)) (sym home) in
     record { moved = subst (λ (x : Motion). Moved l x m) after moved; speed = speed ∙ ap (foundSpeed s) (stands .leg) }
 
 -- a start is fresh, and so is a step from a running leg
@@ -137,10 +136,6 @@ unmoving (Running place) method false e = absurd (true≢false e)
 unmoving Homed method false e = refl
 unmoving Failed method false e = refl
 
-neither : (b : Bool) → b && not b ≡ false
-neither true = refl
-neither false = refl
-
 pub rests : (l : List ℕ) (t : Tick) → let a = motionIn l in
     rises (a .control) (t .control) 4 ≡ false → runningIn (a .phase) ≡ false → Homes l t true l (pos 0)
 rests l t e r =
@@ -151,8 +146,8 @@ rests l t e r =
     ap (λ (b : Bool). phaseAfter (a .phase) (s .method) (b && true) v) e ∙ stays (a .phase) (s .method) v r in
     let home : homeBy a t true (a .phase) ≡ a .home =
     ap (λ (b : Bool). homeAfter (a .home) (b && true) (homedIn (a .phase)) (homedIn (a .phase)) (t .position)) e
-    ∙ ap (λ (b : Bool). cond b (t .position) (a .home)) (neither (homedIn (a .phase))) in
-    let after : a ≡ homedBy s a t true =
+    ∙ ap (λ (b : Bool). cond b (t .position) (a .home)) (and-not-self (homedIn (a .phase))) in
+    let after : a ≡ homingBy s a t true =
     sym (ap (λ (p : Phase). homeAt (phased a p) (homeBy a t true p)) phase ∙ ap (homeAt a) home) in
     record {
       moved = subst (λ (x : Motion). Moved l x l) after (unmoved l);
@@ -197,7 +192,7 @@ stops l t m moved =
     let home : homeBy a t false q ≡ a .home =
     ap (λ (b : Bool). homeAfter (a .home) b (homedIn (a .phase)) (homedIn q) (t .position)) (and-false rising)
     ∙ ap (λ (b : Bool). cond b (t .position) (a .home)) (stopped-homed (a .phase) (s .method)) in
-    let after : phased a q ≡ homedBy s a t false =
+    let after : phased a q ≡ homingBy s a t false =
     sym (ap (λ (p : Phase). homeAt (phased a p) (homeBy a t false p)) phase ∙ ap (homeAt (phased a q)) home) in
     record {
       moved = subst (λ (x : Motion). Moved l x m) after moved;
@@ -226,11 +221,11 @@ handed s t a torque speed phase homed followed home position clamped follows lim
     rw (position, status, mode, limited, clamped, follows, followed, homed, home, phase)
 
 -- with the torque and the speed that the rules say, the answer is the tick's
-pub answered : (s : Settings) (t : Tick) (before after : Motion) (d : Demand) {torque speed : ℤ}
-    → torque ≡ torqueOf s (t .set) (liveOf (after .state) && matchedIn t (after .mode)) (wholeDemand d)
-    → speed ≡ speedOf s (after .phase) (bitOf (t .control) 8) → answerBy s t after torque speed ≡ answerIn s t (momentAt before t after d)
+pub answered : (s : Settings) (t : Tick) (a : Motion) {d : Demand} {torque speed : ℤ} → d ≡ demandIn s t
+    → torque ≡ torqueOf s (t .set) (torqueOn t a) (wholeDemand d) → speed ≡ speedOf s (a .phase) (bitOf (t .control) 8)
+    → answerBy s t a torque speed ≡ answerIn s t a
 unfolding answerIn
-answered s t before after d torque speed = rw (torque, speed)
+answered s t a demand torque speed = rw (torque, speed, demand)
 
 nothing-set : {s : Settings} → axis.Nothing ≡ Set s → ⊥
 nothing-set {s} e = true≢false (ap isNothing e)

@@ -2,11 +2,10 @@
 -- Assumes nothing.
 use Prim.Native.Nat.{ℕ, zero, suc, _+_, _<_, _≤_}
 use mathlib.Core.Path.{_≡_, refl, sym, ap, ap₂, _∙_}
-use mathlib.Core.Bool.{Bool, true, false, cond, true≢false}
+use mathlib.Core.Bool.{Bool, true, false, true≢false}
 use mathlib.Core.List.{List, _∷_}
 use native.Mathlib.Omega.{arith}
-use borrow.Author.Tests.{lt-ltb, ltb-true, ltb-false}
-use lib.Dec.{ltb}
+use borrow.Author.Tests.{lt-ltb, le-ltb}
 use lib.ListN.{take, drop}
 use lib.Seq.{drop-drop}
 use Rattle.settings.specs.declared.Refusal.{Refusal}
@@ -125,17 +124,9 @@ pub word-call : (l m : List ℕ) (w : ℕ) (v : Verdict) (g : Reading) (ends : B
 unfolding wordOf axisIn
 word-call l m w v g ends e f c = rw (e, f) c
 
--- the end word is due when all have come, another word when so many have come
-pub all-come : (n : ℕ) → 15 ≡ dueKind n → 14 ≤ n
-all-come n e = go (ltb n 14) refl e
-  where
-    go : (t : Bool) → ltb n 14 ≡ t → 15 ≡ cond t n 15 → 14 ≤ n
-    go true q e = absurd (omega (arith, ltb-true n 14 q))
-    go false q e = ltb-false n 14 q
+-- the kind that is due: so many as have come, or, when all have, the end word's
+pub due-value : {k n : ℕ} → k ≡ dueKind n → n < 14 → k ≡ n
+due-value {k} {n} e h = e ∙ rw (lt-ltb n 14 h)
 
-pub due-is : (k n : ℕ) → k ≡ dueKind n → (k ≡ 15 → ⊥) → k ≡ n
-due-is k n e z = go (ltb n 14) e
-  where
-    go : (t : Bool) → k ≡ cond t n 15 → k ≡ n
-    go true e = e
-    go false e = absurd (z e)
+pub due-end : {k n : ℕ} → k ≡ dueKind n → 14 ≤ n → k ≡ 15
+due-end {k} {n} e h = e ∙ rw (le-ltb n 14 h)

@@ -2,7 +2,7 @@
 -- they leave. l are the words before, m, n and k those after each of the three.
 -- Assumes nothing.
 use Prim.Native.Nat.{ℕ}
-use mathlib.Core.Path.{_≡_, refl, ap, ap₂, _∙_}
+use mathlib.Core.Path.{_≡_, ap, ap₂, _∙_}
 use mathlib.Core.Bool.{Bool, _&&_}
 use mathlib.Core.List.{List}
 use lib.IntN.{ℤ}
@@ -20,15 +20,16 @@ use Rattle.speed.specs.Speed.{speedOf}
 use Rattle.torque.specs.Torque.{torqueOf}
 use Rattle.ticks.specs.declared.Tick.{Tick}
 use Rattle.ticks.specs.Motion.{Motion, driven, fed}
-use Rattle.ticks.specs.Rules.{matchedIn, demandIn, alarmIn, homingOn}
-use Rattle.ticks.specs.Moment.{newMode, newState, motionWith, motionAfter, momentAt}
+use Rattle.ticks.specs.Rules.{demandIn, alarmIn, homingOn}
+use Rattle.ticks.specs.After.{newMode, newState, phaseBy, homeBy, motionWith, motionAfter}
 use Rattle.ticks.proofs.Assembly.{assembled}
 use Rattle.answers.specs.declared.Answer.{Answer}
-use Rattle.answers.specs.Answer.{answerIn, answeredIn}
+use Rattle.answers.specs.Answer.{answerBy, answerIn, answeredIn}
+use Rattle.rules.specs.Tick.{withMotion}
 use Rattle.cells.specs.Cells.{settingsIn, motionIn, axisIn}
 use Rattle.cells.specs.Writes.{Moved}
-use Rattle.cells.proofs.Moved.{moving, motion-moved, settings-moved, moved-again}
-use Rattle.axis.specs.Calls.{phaseBy, homeBy, homedBy, Homes, answerBy, Runs}
+use Rattle.cells.proofs.Moved.{motion-moved, settings-moved, moved-again}
+use Rattle.axis.specs.Calls.{homingBy, Homes, Runs}
 use Rattle.axis.proofs.Branches.{answered}
 
 module _ (l m n k : List ℕ) (t : Tick) where
@@ -50,24 +51,24 @@ module _ (l m n k : List ℕ) (t : Tick) where
       let x : Motion = motionWith t state mode number phase (homeBy a t on phase) in
       let m1 = motion-moved drive in
       let s1 = settings-moved drive in
-      let m2 : motionIn n ≡ homedBy s (driven a state mode number) t on =
-      motion-moved (homes .moved) ∙ ap₂ (λ (y : Settings) (b : Motion). homedBy y b t on) s1 m1 in
+      let m2 : motionIn n ≡ homingBy s (driven a state mode number) t on =
+      motion-moved (homes .moved) ∙ ap₂ (λ (y : Settings) (b : Motion). homingBy y b t on) s1 m1 in
       let fedby : fed (motionIn n) (t .control) switches position ≡ x =
       ap (λ (b : Motion). fed b (t .control) switches position) m2
-      ∙ ap₂ (fed (homedBy s (driven a state mode number) t on) (t .control)) sw pos in
-      let after : x ≡ motionAfter s a t = assembled s a t w al md st num o refl refl in
+      ∙ ap₂ (fed (homingBy s (driven a state mode number) t on) (t .control)) sw pos in
+      let after : x ≡ motionAfter s a t = assembled s a t w al md st num o in
       let all = moved-again drive (moved-again (homes .moved) inputs) in
       let torque2 = tq ∙ ap (λ (y : Mode). torqueOf s (t .set) (liveOf state && matchedOf y mode) (wholeDemand demand)) w in
       let speed2 = homes .speed ∙ ap₂ (λ (y : Settings) (b : Motion). speedOf y (phaseBy y b t on) (bitOf (t .control) 8)) s1 m1 in
       record {
-        axis = all .axis ∙ ap (moving (axisIn l)) (fedby ∙ after);
+        axis = all .axis ∙ ap (withMotion (axisIn l)) (fedby ∙ after);
         answer =
             r
             ∙ ap₂
             (λ (y : Settings) (b : Motion). answerBy y t (driven b state mode number) torque speed)
             (settings-moved all)
             (motion-moved inputs ∙ fedby)
-            ∙ answered s t a x demand torque2 speed2
-            ∙ ap₂ (λ (b : Motion) (y : Demand). answerIn s t (momentAt a t b y)) after d;
+            ∙ answered s t x d torque2 speed2
+            ∙ ap (answerIn s t) after;
         kept = all .kept;
       }

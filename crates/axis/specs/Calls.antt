@@ -3,7 +3,7 @@
 -- Assumes nothing.
 use Prim.Native.Nat.{ℕ}
 use mathlib.Core.Path.{_≡_}
-use mathlib.Core.Bool.{Bool, true, cond, _&&_}
+use mathlib.Core.Bool.{Bool, true, cond}
 use mathlib.Core.List.{List}
 use lib.IntN.{ℤ}
 use Rattle.settings.specs.declared.Refusal.{Refusal}
@@ -14,18 +14,13 @@ use Rattle.reader.specs.Pending.{Reading, Complete}
 use Rattle.reader.specs.Cases.{isEnd}
 use Rattle.counts.specs.Bit.{bitOf}
 use Rattle.settings.specs.declared.Settings.{Settings}
-use Rattle.modes.specs.Modes.{modeNumber}
-use Rattle.control.specs.Control.{rises}
 use Rattle.homing.specs.Phase.{Phase, homedIn}
 use Rattle.ticks.specs.declared.Tick.{Tick}
 use Rattle.speed.specs.Speed.{speedOf}
-use Rattle.position.specs.Position.{positionOf, clampedOf}
-use Rattle.status.specs.Statusword.{flagsIn, limitedOf, statuswordOf}
 use Rattle.ticks.specs.Motion.{Motion, phased, homeAt}
-use Rattle.ticks.specs.Rules.{matchedIn, viewWith}
-use Rattle.ticks.specs.Moment.{phaseAfter, homeAfter, targetOf}
+use Rattle.ticks.specs.After.{phaseBy, homeBy}
 use Rattle.answers.specs.declared.Answer.{Answer}
-use Rattle.answers.specs.Answer.{isFollowing, answeredIn}
+use Rattle.answers.specs.Answer.{answeredIn}
 use Rattle.rules.specs.Axis.{Nothing, Worded}
 use Rattle.rules.specs.Word.{withPending, taken, wordOf}
 use Rattle.rules.specs.Tick.{tickOf, gone}
@@ -74,38 +69,18 @@ pub record Completes (l m : List ℕ) (v : Verdict) : Type 0 where
   pub inputs : InputsKept l m
   pub kept : (v ≡ Accepted → ⊥) → m ≡ l
 
--- homing and home after a tick; on: homing is matched and the drive in Operation enabled
-abbrev pub phaseBy : Settings → Motion → Tick → Bool → Phase
-phaseBy s a t on = phaseAfter (a .phase) (s .method) (rises (a .control) (t .control) 4 && on) (viewWith (a .switches) (a .position) t on)
-
-abbrev pub homeBy : Motion → Tick → Bool → Phase → ℤ
-homeBy a t on phase = homeAfter (a .home) (rises (a .control) (t .control) 4 && on) (homedIn (a .phase)) (homedIn phase) (t .position)
-
-abbrev pub homedBy : Settings → Motion → Tick → Bool → Motion
-homedBy s a t on = homeAt (phased a (phaseBy s a t on)) (homeBy a t on (phaseBy s a t on))
+-- motion with the phase and home of a tick; on: homing is matched and the drive in Operation enabled
+abbrev pub homingBy : Settings → Motion → Tick → Bool → Motion
+homingBy s a t on = homeAt (phased a (phaseBy s a t on)) (homeBy a t on (phaseBy s a t on))
 
 -- homing's part of a tick, which also has the speed v
 pub record Homes (l : List ℕ) (t : Tick) (on : Bool) (m : List ℕ) (v : ℤ) : Type 0 where
-  pub moved : Moved l (homedBy (settingsIn l) (motionIn l) t on) m
+  pub moved : Moved l (homingBy (settingsIn l) (motionIn l) t on) m
   pub speed : v ≡ speedOf (settingsIn l) (phaseBy (settingsIn l) (motionIn l) t on) (bitOf (t .control) 8)
 
 -- motion in a phase, with home at the position where that is homed
 abbrev pub arrived : Motion → Phase → ℤ → Motion
 arrived a phase position = homeAt (phased a phase) (cond (homedIn phase) position (a .home))
-
--- the answer of a tick that leaves motion a, with torque and speed
-abbrev pub answerBy : Settings → Tick → Motion → ℤ → ℤ → Answer
-answerBy s t a torque speed =
-    let followed = targetOf (t .command) (matchedIn t (a .mode)) (a .state) (homedIn (a .phase)) in
-    record {
-      number = 0;
-      torque = torque;
-      speed = speed;
-      position = positionOf s (a .home) followed (t .position);
-      status = statuswordOf (a .state) (a .mode) (flagsIn (a .phase) (isFollowing followed) (limitedOf (t .switches) (clampedOf s followed)));
-      mode = modeNumber (a .mode);
-      alarm = a .alarm;
-    }
 
 -- a tick under the settings of words 0 to 13
 pub record Runs (l : List ℕ) (t : Tick) (m : List ℕ) (a : Answer) : Type 0 where

@@ -82,12 +82,13 @@ pub fn word(axis: &mut Lent, word: u32) -> Verdict
     if kind == 0 {
         return start(axis, word % KIND);
     }
-    if kind == reader::due_kind(cells::count(axis)) {
+    let count = cells::count(axis);
+    if kind == reader::due_kind(count) {
         let value = word % KIND;
-        if kind == 15 {
-            finish(axis, value)
-        } else {
+        if count < 14 {
             store(axis, kind, value)
+        } else {
+            finish(axis, value)
         }
     } else {
         cells::empty(axis);

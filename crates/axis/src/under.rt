@@ -1,5 +1,5 @@
 // A tick under settings. Settings and motion are read where they are used, and what the tick leaves is written as soon as it is known: few
-// values are alive at a time. The tick's switches, as bits, and the mode that its command wants are worked out once.
+// values are alive at a time. The tick's switches are made bits once.
 use answers::Answer;
 use cells::Lent;
 use commands::Demand;
@@ -12,11 +12,11 @@ use states::State;
 use ticks::Tick;
 use torque::LimitSet;
 ghost use mathlib.Core.Path.{_≡_};
-ghost use mathlib.Core.Bool.{Bool, true, cond};
+ghost use mathlib.Core.Bool.{true};
 ghost use Rattle.commands.specs.Commands.{modeOf, wholeDemand};
 ghost use Rattle.legs.specs.Digits.{legInDigit};
-ghost use Rattle.legs.specs.Events.{viewOf, switchesIn};
-ghost use Rattle.homing.specs.Phase.{phaseOf, homedIn};
+ghost use Rattle.legs.specs.Events.{viewOf};
+ghost use Rattle.homing.specs.Phase.{phaseOf};
 ghost use Rattle.homing.specs.Places.{stoppedOf};
 ghost use Rattle.torque.specs.Torque.{torqueOf};
 ghost use Rattle.speed.specs.Speed.{foundSpeed};
@@ -24,11 +24,12 @@ ghost use Rattle.position.specs.Position.{positionOf, clampedOf};
 ghost use Rattle.states.specs.Alarm.{latchedOf};
 ghost use Rattle.ticks.specs.Rules.{alarmIn, viewWith};
 ghost use Rattle.ticks.specs.Motion.{driven, phased};
-ghost use Rattle.ticks.specs.Moment.{newMode, newState};
+ghost use Rattle.ticks.specs.After.{newMode, newState};
 ghost use Rattle.patterns.specs.Patterns.{switchBits};
 ghost use Rattle.cells.specs.Cells.{settingsIn, motionIn};
 ghost use Rattle.cells.specs.Writes.{Moved};
-ghost use Rattle.axis.specs.Calls.{arrived, Homes, answerBy, Runs};
+ghost use Rattle.answers.specs.Answer.{answerBy};
+ghost use Rattle.axis.specs.Calls.{arrived, Homes, Runs};
 
 // The drive after a tick.
 struct Drive {
@@ -97,8 +98,8 @@ fn speed_in(axis: &Lent, leg: u32) -> i32
     speed::speed(cells::settings_in(axis), leg)
 }
 
-// Home is the position of the tick in which the axis becomes homed.
-fn arrive(axis: &mut Lent, phase: u32, position: i32)
+// Where homing stands. Home is the position of the tick in which the axis becomes homed.
+fn put_stand(axis: &mut Lent, phase: u32, position: i32)
     ensures { λ _. ⌜ Moved (now (axis .entry)) (arrived (motionIn (now (axis .entry))) (phaseOf phase) position) (now (axis .exit)) ⌝ }
 {
     cells::put_phase(axis, phase);
@@ -112,7 +113,7 @@ fn settle(axis: &mut Lent, after: Stand, position: i32) -> i32
     ensures moved { λ _. ⌜ Moved (now (axis .entry)) (arrived (motionIn (now (axis .entry))) (phaseOf (after .phase)) position) (now (axis .exit)) ⌝ }
     ensures speed { λ r. ⌜ r ≡ foundSpeed (settingsIn (now (axis .entry))) (legInDigit (after .leg)) ⌝ }
 {
-    arrive(axis, after.phase, position);
+    put_stand(axis, after.phase, position);
     speed_in(axis, after.leg)
 }
 
@@ -140,11 +141,12 @@ fn in_homing(axis: &mut Lent, t: Tick, switches: u32) -> i32
 fn out_of_homing(axis: &mut Lent)
     ensures { λ _. ⌜ Moved (now (axis .entry)) (phased (motionIn (now (axis .entry))) (stoppedOf (motionIn (now (axis .entry)) .phase) (settingsIn (now (axis .entry)) .method))) (now (axis .exit)) ⌝ }
 {
-    let phase = homing::stop(cells::phase(axis), cells::method(axis));
-    cells::put_phase(axis, phase);
+    let stopped = homing::stop(cells::phase(axis), cells::method(axis));
+    cells::put_phase(axis, stopped);
 }
 
-fn home(axis: &mut Lent, t: Tick, switches: u32, on: bool) -> i32
+// Homing's part of a tick. Returns the speed.
+fn homing_after(axis: &mut Lent, t: Tick, switches: u32, on: bool) -> i32
     requires { ⌜ switches ≡ switchBits (t .switches) ⌝ }
     ensures { λ r. ⌜ Homes (now (axis .entry)) t on (now (axis .exit)) r ⌝ }
 {
@@ -220,7 +222,7 @@ pub fn tick(axis: &mut Lent, t: Tick) -> Answer
     let on = states::is_live(state) & modes::is_matched(wanted, mode);
     let torque = torque_in(axis, set, on, demand);
     cells::put_drive(axis, state, mode, d.alarm);
-    let speed = home(axis, t, bits, ticks::homing_on(wanted, mode, state));
+    let speed = homing_after(axis, t, bits, ticks::homing_on(wanted, mode, state));
     cells::put_inputs(axis, t.control, bits, t.position);
     answer(axis, t, d, bits, torque, speed)
 }

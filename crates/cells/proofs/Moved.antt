@@ -1,31 +1,23 @@
 -- Writes of motion, one after the other.
 -- Assumes nothing.
-use Prim.Native.Nat.{ℕ, zero, suc, _+_, _<_, _≤_}
+use Prim.Native.Nat.{ℕ, zero, suc, _+_, _≤_}
 use mathlib.Core.Path.{_≡_, refl, sym, ap, ap₂, _∙_}
-use mathlib.Core.List.{List, [], _∷_}
+use mathlib.Core.List.{List, _∷_}
 use native.Mathlib.Omega.{arith}
-use lib.ListN.{getD, take}
+use lib.ListN.{take}
+use lib.Seq.{getD-take}
 use Rattle.words.specs.Decode.{settingsOf}
 use Rattle.ticks.specs.Motion.{Motion}
 use Rattle.rules.specs.Axis.{Axis}
+use Rattle.rules.specs.Tick.{withMotion}
 use Rattle.cells.specs.Lists.{cellsFrom}
-use Rattle.cells.specs.Cells.{settingsIn, motionIn, axisIn, FrontKept}
+use Rattle.cells.specs.Cells.{settingsIn, motionIn, axisIn}
 use Rattle.cells.specs.Writes.{Moved}
 
 -- the first words of a list, read from as many of it
-front : (j k : ℕ) (l : List ℕ) → k < j → getD (take j l) k 0 ≡ getD l k 0
-front zero k l h = absurd (omega arith)
-front (suc j) k [] h = refl
-front (suc j) zero (x ∷ l) h = refl
-front (suc j) (suc k) (x ∷ l) h = front j k l (omega arith)
-
 cells-front : (j k n : ℕ) (l : List ℕ) → k + n ≤ j → cellsFrom k n (take j l) ≡ cellsFrom k n l
 cells-front j k zero l h = refl
-cells-front j k (suc n) l h = ap₂ (λ (x : ℕ) (t : List ℕ). x ∷ t) (front j k l (omega arith)) (cells-front j (suc k) n l (omega arith))
-
--- an axis with another motion
-abbrev pub moving : Axis → Motion → Axis
-moving a n = record { active = a .active; pending = a .pending; motion = n }
+cells-front j k (suc n) l h = ap₂ (λ (x : ℕ) (t : List ℕ). x ∷ t) (getD-take j l k 0 (omega arith)) (cells-front j (suc k) n l (omega arith))
 
 module _ {l m : List ℕ} {a : Motion} (w : Moved l a m) where
   pub motion-moved : motionIn m ≡ a
@@ -37,7 +29,7 @@ module _ {l m : List ℕ} {a : Motion} (w : Moved l a m) where
       ap settingsOf (sym (cells-front 29 0 14 m (omega arith)) ∙ ap (cellsFrom 0 14) (w .kept) ∙ cells-front 29 0 14 l (omega arith))
 
   pub moved-again : {b : Motion} {n : List ℕ} → Moved m b n → Moved l b n
-  moved-again {b} v = record { axis = v .axis ∙ ap (λ (x : Axis). moving x b) (w .axis); kept = v .kept ∙ w .kept }
+  moved-again {b} v = record { axis = v .axis ∙ ap (λ (x : Axis). withMotion x b) (w .axis); kept = v .kept ∙ w .kept }
 
 pub unmoved : (l : List ℕ) → Moved l (motionIn l) l
 unfolding axisIn

@@ -12,6 +12,7 @@ use Rattle.reader.specs.Read.{emptyPending, started, kept}
 use Rattle.ticks.specs.Motion.{Motion, idled}
 use Rattle.rules.specs.Axis.{Set, freshAxis}
 use Rattle.rules.specs.Word.{withPending}
+use Rattle.rules.specs.Tick.{withMotion}
 use Rattle.patterns.specs.Patterns.{wordAt}
 use Rattle.cells.specs.Lists.{cellsFrom}
 use Rattle.cells.specs.Cells.{pendingIn, motionIn, axisIn, SettingsKept, PendingKept, FrontKept, MotionKept}
@@ -66,5 +67,5 @@ pub record Activated (l m : List ℕ) : Type 0 where
 
 -- motion is a, and nothing else changes
 pub record Moved (l : List ℕ) (a : Motion) (m : List ℕ) : Type 0 where
-  pub axis : axisIn m ≡ record { active = axisIn l .active; pending = axisIn l .pending; motion = a }
+  pub axis : axisIn m ≡ withMotion (axisIn l) a
   pub kept : FrontKept l m

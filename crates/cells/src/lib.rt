@@ -259,7 +259,7 @@ pub fn activate(axis: &mut Lent)
     axis[PHASE] = homing::IDLE;
 }
 
-// What a tick leaves is written in parts, each as soon as it is known: drive, homing, and the inputs that the next tick compares with.
+// The parts of what a tick leaves: the drive's, homing's, and the inputs that the next tick compares with.
 pub fn put_drive(axis: &mut Lent, state: State, mode: Mode, alarm: u32)
     ensures { λ _. ⌜ Moved (now (axis .entry)) (driven (motionIn (now (axis .entry))) state mode alarm) (now (axis .exit)) ⌝ }
 {

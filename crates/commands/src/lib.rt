@@ -1,4 +1,4 @@
-// The command of a tick: the mode and the torque that it asks for.
+// The command of a tick: the mode, the target and the torque that it asks for.
 use hybrid::Hybrid;
 use modes::Mode;
 ghost use mathlib.Core.Path.{_≡_};

@@ -15,7 +15,7 @@ use Rattle.ticks.specs.declared.Tick.{Tick}
 use Rattle.demands.specs.Events.{Event, word, tick}
 use Rattle.ticks.specs.Rules.{modeAfter, stateAfter, startsIn, viewOf}
 use Rattle.rules.specs.Word.{withPending, taken, wordOf}
-use Rattle.ticks.specs.Moment.{newMode, newState, newPhase}
+use Rattle.ticks.specs.After.{newMode, newState, newPhase}
 use Rattle.answers.specs.Answer.{answeredIn}
 use Rattle.rules.specs.Tick.{gone, tickUnder, tickOf}
 use Rattle.demands.specs.Replies.{leftBy, axisFrom, axisOf}

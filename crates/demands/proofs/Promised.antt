@@ -20,7 +20,7 @@ use Rattle.rules.specs.Axis.{Active, Nothing, Set, Axis, freshAxis}
 use Rattle.ticks.specs.declared.Tick.{Tick}
 use Rattle.demands.specs.Events.{Event, tick}
 use Rattle.ticks.specs.Rules.{demandIn}
-use Rattle.ticks.specs.Moment.{newMode, newState, newPhase, momentOf}
+use Rattle.ticks.specs.After.{newMode, newState, newPhase, motionAfter}
 use Rattle.answers.specs.Answer.{flagsOf, torqueOn, answerIn, answeredIn}
 use Rattle.rules.specs.Tick.{gone, tickUnder, tickOf}
 use Rattle.demands.specs.Replies.{leftBy, axisFrom, repliesFrom, axisOf, replies}
@@ -56,7 +56,7 @@ module _ (a : Axis) (k : Known) (m : Matches a k) (t : Tick) where
     after : Matches (gone a (answeredIn s (a .motion) t) .axis) (next k (tick t))
     after = subst (λ (x : Active). Matches (gone a (answeredIn s (a .motion) t) .axis) (afterTick x k t)) (sym e) (keep-under a k m s e t)
 
-    off : liveOf (next k (tick t) .state) ≡ false → torqueOn (momentOf s (a .motion) t) ≡ false
+    off : liveOf (next k (tick t) .state) ≡ false → torqueOn t (motionAfter s (a .motion) t) ≡ false
     unfolding answeredIn
     off h = let l : liveOf (newState s (a .motion) t) ≡ false = ap liveOf (after .state) ∙ h in rw l
 
@@ -71,10 +71,10 @@ module _ (a : Axis) (k : Known) (m : Matches a k) (t : Tick) where
     judged : Judged s k t (answeredIn s (a .motion) t .answer)
     unfolding answeredIn answerIn
     judged =
-        let flags = flagsOf s (momentOf s (a .motion) t) in
+        let flags = flagsOf s t (motionAfter s (a .motion) t) in
         record {
           number = refl;
-          bounded = bounded s (t .set) (torqueOn (momentOf s (a .motion) t)) (wholeDemand (demandIn s t));
+          bounded = bounded s (t .set) (torqueOn t (motionAfter s (a .motion) t)) (wholeDemand (demandIn s t));
           zero-unless-live = λ h. rw (off h) (zero-when-off s (t .set) (wholeDemand (demandIn s t)));
           homed = through (bit-8-homed (newState s (a .motion) t) (newMode (a .motion) t) flags) homed-known;
           attained = λ h.

@@ -46,7 +46,7 @@ use Rattle.demands.specs.Known.{Since, never, known}
 use Rattle.demands.specs.Known.{start as begun}
 use Rattle.answers.specs.Answer.{answerIn, answeredIn}
 use Rattle.rules.specs.Word.{wordOf}
-use Rattle.ticks.specs.Moment.{newPhase}
+use Rattle.ticks.specs.After.{newPhase}
 use Rattle.rules.specs.Tick.{tickOf}
 use Rattle.demands.specs.Replies.{Reply, said, answered, replies}
 

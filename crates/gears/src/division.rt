@@ -1,4 +1,4 @@
-// The gear's division in 32 bits: long division, twelve bits at a time. The module divides by software, where three short divisions
+// The gear's division in 32 bits: long division, of all but the low 24 bits first, then of twelve bits at a time. The module divides by software, where three short divisions
 // cost far less than a long one.
 ghost use mathlib.Core.Path.{_≡_};
 ghost use Prim.Native.Nat.{_/_, _%_, _^_, _≤_, _<_};

@@ -5,7 +5,7 @@ use mathlib.Core.Path.{_≡_, refl, ap, _∙_}
 use mathlib.Core.Bool.{Bool, true, false}
 use Rattle.legs.specs.Found as found
 use Rattle.legs.specs.Digits.{legInDigit}
-use Rattle.homing.specs.Phase.{Phase, Idle, Running, Homed, Failed, phaseOf}
+use Rattle.homing.specs.Phase.{phaseOf}
 use Rattle.homing.specs.Moving.{movingLeg, Stands}
 use Rattle.homing.specs.declared.Stand.{Stand}
 use Rattle.homing.proofs.Phases.{resting}

@@ -18,12 +18,13 @@ pub const FAILED: u32 = 2;
 
 pub const RUNNING: u32 = 3;
 
-// Homing after a tick, and the leg in which the axis moves then: 0 where none runs or the tick is halted.
+// Homing after a tick, and the leg in which the axis moves then: no leg where none runs or the tick is halted.
 pub struct Stand {
     pub phase: u32,
     pub leg: u32,
 }
 
+// In a phase, and no leg moves.
 fn resting(phase: u32) -> Stand
     ensures phase { λ r. ⌜ r .phase ≡ phase ⌝ }
     ensures leg { λ r. ⌜ r .leg ≡ 0 ⌝ }
@@ -62,7 +63,7 @@ fn at_limit(method: u32, place: u32) -> Stand
     }
 }
 
-// One tick in a leg. In a halted one nothing counts.
+// One tick in a leg. In a halted one nothing counts, and nothing moves.
 fn run(method: u32, place: u32, seen: Seen) -> Stand
     ensures { λ r. ⌜ Stands method (runningOf method place (viewOf seen)) (seen .halted) r ⌝ }
 {
@@ -95,7 +96,7 @@ fn first_place(method: u32, home: bool) -> u32
     if home { legs::home_place(method) } else { 0 }
 }
 
-// Homing after its start tick; home is HOM in that tick. A number that is no method makes homing idle.
+// Homing after its start tick; home is HOM in that tick, halted its bit 8. A number that is no method makes homing idle.
 pub fn start(method: u32, home: bool, halted: bool) -> Stand
     ensures { λ r. ⌜ Stands method (startOf method home) halted r ⌝ }
 {

@@ -31,7 +31,7 @@ abbrev pub turnPlace : ℕ
 turnPlace = 4
 
 -- the first place of route c, for a start on HOM. No place is its own: it is a from the second leg on in 23 and 24, b from the third on in
--- 25 and 26, in 27 to 30 likewise, and a itself in 33 and 34 (`home-from` of homing, computed for every method).
+-- 25 and 26, in 27 to 30 likewise, and a itself in 33 to 35 (`homes` of homing, computed for every method).
 abbrev pub homePlace : ℕ → ℕ
 homePlace method = cond (leb 23 method && leb method 30) (cond (ltb ((method - 23) % 4) 2) 1 5) 0
 

@@ -53,7 +53,7 @@ pub fn shown(wanted: Mode, shown: Mode, before: State, still: bool) -> Mode
     if asks & free { wanted } else { shown }
 }
 
-// Whether a command that wants a mode is matched by the shown one. Asked of the shown one, "has no mode" is no fact of the command's branch.
+// Whether a command that wants a mode is matched by the shown one. A matched command wants the shown mode, so None is asked of that.
 pub fn is_matched(wanted: Mode, shown: Mode) -> bool
     ensures { λ r. ⌜ r ≡ matchedOf wanted shown ⌝ }
 {

@@ -2,9 +2,9 @@
 -- Assumes nothing.
 use Prim.Native.Nat.{ℕ, _<_}
 use mathlib.Core.Path.{_≡_, refl}
-use mathlib.Core.Bool.{Bool, true, false, cond, not, _&&_, true≢false}
+use mathlib.Core.Bool.{Bool, true, false, cond, not, _&&_}
 use native.Mathlib.Omega.{arith}
-use borrow.Author.Tests.{eq-eqb, ne-eqb, eqb-true, ltb-true}
+use borrow.Author.Tests.{eq-eqb, ne-eqb, ltb-true}
 use lib.Dec.{eqb, ltb}
 use Rattle.settings.specs.declared.Refusal.the-variants.{OutOfSequence}
 use Rattle.reader.specs.Pending.{Pending}
@@ -39,11 +39,3 @@ due-below k n e z = go (ltb n 14) refl e
     go : (t : Bool) → ltb n 14 ≡ t → k ≡ cond t n 15 → k < 14
     go true q e = omega (arith, ltb-true n 14 q)
     go false q e = absurd (z e)
-
--- a word in sequence that is no start word is the one due
-pub in-sequence : (k due : ℕ) → not (eqb k due) && not (eqb k 0) ≡ false → (k ≡ 0 → ⊥) → k ≡ due
-in-sequence k due e z = go (eqb k due) refl (rw (ne-eqb k 0 z) at e)
-  where
-    go : (t : Bool) → eqb k due ≡ t → not t && true ≡ false → k ≡ due
-    go true q e = eqb-true k due q
-    go false q e = absurd (true≢false e)

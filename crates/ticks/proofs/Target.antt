@@ -1,7 +1,7 @@
 -- A matched command's target, asked of the shown mode.
 -- Assumes nothing.
-use mathlib.Core.Path.{_≡_, refl}
-use mathlib.Core.Bool.{Bool, true, false, _&&_}
+use mathlib.Core.Path.{_≡_}
+use mathlib.Core.Bool.{Bool, true, false, _&&_, and-true, and-false}
 use lib.IntN.{ℤ, pos}
 use Rattle.states.specs.declared.State.{State}
 use Rattle.modes.specs.declared.Mode.{Mode}
@@ -13,17 +13,15 @@ use Rattle.commands.specs.declared.Command.the-variants.{Hybrid, Homing, Positi
 use Rattle.commands.specs.Commands.{modeOf, targetIn}
 use Rattle.position.specs.declared.Followed.the-variants.{Nothing}
 use Rattle.position.specs.Position.{followedOf}
-use Rattle.ticks.specs.Moment.{targetOf}
+use Rattle.ticks.specs.After.{targetOf}
 
 module _ (state : State) (homed : Bool) where
   -- of a position command, and of any other
   asked : (b : Bool) (target : ℤ) → followedOf (b && true) state homed target ≡ followedOf b state homed target
-  asked true target = refl
-  asked false target = refl
+  asked b target = rw (and-true b)
 
   unasked : (b : Bool) → followedOf (b && false) state homed (pos 0) ≡ Nothing
-  unasked true = refl
-  unasked false = refl
+  unasked b = rw (and-false b)
 
   pub target-of : (c : Command) (m : Mode)
       → followedOf (matchedOf (modeOf c) m && isMode m mode.Position) state homed (targetIn c) ≡ targetOf c (matchedOf (modeOf c) m) state homed

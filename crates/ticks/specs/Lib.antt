@@ -1,3 +1,3 @@
 pub mod Rules
 pub mod Motion
-pub mod Moment
+pub mod After

@@ -1,5 +1,5 @@
 -- What an axis keeps from tick to tick: the drive's state, homing, and the inputs of the tick before. What a fresh axis keeps (01, "Homing
--- routes" and "A tick"), and what a takeover clears of it (01, "The sheet").
+-- routes" and "A tick"), and what a takeover clears of it (01, "The sheet"), among the parts that may be replaced.
 -- Assumes nothing.
 use Prim.Native.Nat.{ℕ}
 use lib.IntN.{ℤ, pos}

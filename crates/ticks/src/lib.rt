@@ -9,7 +9,7 @@ ghost use mathlib.Core.Path.{_≡_};
 ghost use Rattle.modes.specs.Modes.{matchedOf};
 ghost use Rattle.commands.specs.Commands.{modeOf};
 ghost use Rattle.ticks.specs.Rules.{homingOn};
-ghost use Rattle.ticks.specs.Moment.{targetOf};
+ghost use Rattle.ticks.specs.After.{targetOf};
 
 // The inputs of one tick.
 pub struct Tick {

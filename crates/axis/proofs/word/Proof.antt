@@ -1,6 +1,6 @@
 -- `axis::word` meets its contract.
 -- Assumes nothing.
-use mathlib.Core.Path.{refl, sym, ap, _∙_}
+use mathlib.Core.Path.{_≡_, refl, sym, ap, _∙_}
 use mathlib.Core.Bool.{true, false}
 use native.Mathlib.Omega.{arith}
 use borrow.Author.Tests.{eq-eqb, ne-eqb}
@@ -8,9 +8,8 @@ use Rattle.settings.specs.declared.Refusal.the-variants.{OutOfSequence}
 use Rattle.words.specs.Word.{kindOf}
 use Rattle.reader.specs.Read.{dueKind}
 use Rattle.reader.specs.Cases.{isEnd}
-use Rattle.reader.proofs.Steps.{read-start, read-out, read-end, read-field, due-below}
-use Rattle.patterns.specs.Patterns.{wordAt}
-use Rattle.axis.proofs.Taking.{refused-word, word-call, all-come, due-is}
+use Rattle.reader.proofs.Steps.{read-start, read-out, read-end, read-field}
+use Rattle.axis.proofs.Taking.{refused-word, word-call, due-value, due-end}
 use borrow.Author.Needs.{needs}
 use Rattle.axis.proofs.word.Statement.{statement}
 use Rattle.axis.proofs.word.Tie as tie
@@ -30,20 +29,19 @@ count-requires c κs = search needs
 due-kind-requires : tie.Need-due-kind-requires
 due-kind-requires c κs = search needs
 
-finish-requires : tie.Need-finish-requires
-finish-requires c κs =
-    let t = c .before .before in
-    let d = t .before in
-    all-come _ (sym (c .before .if3 .taken) ∙ t .if2 .taken ∙ d .due-kind .ensures ∙ ap dueKind (d .before .count .ensures))
+-- the kind that is due
+due : (t : tie.Then2) → kindOf (t .before .before .before .before .before .args .word) ≡ dueKind (t .before .before .count .result)
+due t = t .if2 .taken ∙ t .before .due-kind .ensures
 
 store-requires : tie.Need-store-requires
 store-requires c κs =
     let t = c .before .before in
-    let d = t .before in
-    let k = t .if2 .taken ∙ d .due-kind .ensures ∙ ap dueKind (d .before .count .ensures) in
-    let b = d .before .before .before .before .args in
-    let n = wordAt (b .axis .now) 14 in
-    (due-below (kindOf (b .word)) n k (c .before .if3 .left), due-is (kindOf (b .word)) n k (c .before .if3 .left))
+    let n = t .before .before in
+    let k = due-value (due t) (c .before .if3 .taken) in
+    (omega (arith, k, c .before .if3 .taken), k ∙ n .count .ensures)
+
+finish-requires : tie.Need-finish-requires
+finish-requires c κs = let n = c .before .before .before .before in omega (arith, n .count .ensures, c .before .if3 .left)
 
 empty-requires : tie.Need-empty-requires
 empty-requires c κs = search needs
@@ -51,19 +49,22 @@ empty-requires c κs = search needs
 returns-2 : tie.Need-returns-2
 returns-2 c =
     let f = c .before .before in
-    let d = f .before .before in
-    let b = d .before .before .before .before .args in
-    let k = f .before .if2 .taken ∙ d .due-kind .ensures ∙ ap dueKind (d .before .count .ensures) in
-    word-call (b .axis .now) (c .finish .last .0) (b .word) (c .finish .result) _ true (read-end _ _ k (f .if3 .taken)) (eq-eqb (kindOf (b .word)) 15 (f .if3 .taken)) (c .finish .ensures)
+    let t = f .before in
+    let n = t .before .before in
+    let z = n .before .before in
+    let b = z .before .args in
+    let k = due-value (due t) (f .if3 .taken) in
+    let other : kindOf (b .word) ≡ 15 → ⊥ = λ e. omega (arith, k, e, f .if3 .taken) in
+    word-call (b .axis .now) (c .store .last .0) (b .word) (c .store .result) _ false (read-field _ _ (due t ∙ ap dueKind (n .count .ensures)) (z .if1 .left) other) (ne-eqb (kindOf (b .word)) 15 other) (c .store .ensures)
 
 returns-3 : tie.Need-returns-3
 returns-3 c =
     let f = c .before .before in
-    let d = f .before .before in
-    let z = d .before .before .before in
-    let b = z .before .args in
-    let k = f .before .if2 .taken ∙ d .due-kind .ensures ∙ ap dueKind (d .before .count .ensures) in
-    word-call (b .axis .now) (c .store .last .0) (b .word) (c .store .result) _ false (read-field _ _ k (z .if1 .left) (f .if3 .left)) (ne-eqb (kindOf (b .word)) 15 (f .if3 .left)) (c .store .ensures)
+    let t = f .before in
+    let n = t .before .before in
+    let b = n .before .before .before .args in
+    let k = due-end (due t) (f .if3 .left) in
+    word-call (b .axis .now) (c .finish .last .0) (b .word) (c .finish .result) _ true (read-end _ _ (due t ∙ ap dueKind (n .count .ensures)) k) (eq-eqb (kindOf (b .word)) 15 k) (c .finish .ensures)
 
 returns-4 : tie.Need-returns-4
 returns-4 c =
@@ -81,8 +82,8 @@ word-spec =
     returns
     count-requires
     due-kind-requires
-    finish-requires
     store-requires
+    finish-requires
     empty-requires
     returns-2
     returns-3

@@ -1,6 +1,5 @@
 -- `cells::put_home` meets its contract.
 -- Assumes nothing.
-use mathlib.Core.Path.{_∙_}
 use mir.Facts.{toZ-ofZ}
 use Rattle.cells.proofs.Laws.{home-words}
 use borrow.Author.Needs.{needs}

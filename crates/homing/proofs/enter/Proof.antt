@@ -9,7 +9,6 @@ use Rattle.legs.specs.Places.{legAt}
 use Rattle.legs.specs.Digits.{legInDigit}
 use Rattle.legs.proofs.Digit.{some-leg, no-leg}
 use Rattle.legs.proofs.Table.{placed}
-use Rattle.homing.specs.Phase.{Running, Homed}
 use Rattle.homing.specs.Places.{entered}
 use Rattle.homing.proofs.Phases.{running-at}
 use Rattle.homing.proofs.Moving.{rests}

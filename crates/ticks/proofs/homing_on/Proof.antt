@@ -1,7 +1,7 @@
 -- `ticks::homing_on` meets its contract: where a command is matched, the shown mode is the wanted one.
 -- Assumes nothing.
-use mathlib.Core.Path.{_≡_, refl, sym, ap, _∙_}
-use mathlib.Core.Bool.{Bool, true, false, _&&_, and-false}
+use mathlib.Core.Path.{ap, _∙_}
+use mathlib.Core.Bool.{Bool, _&&_, and-comm}
 use Rattle.states.specs.declared.State.the-variants.{OperationEnabled}
 use Rattle.states.specs.States.{is}
 use Rattle.modes.specs.declared.Mode.the-variants.{Homing}
@@ -20,19 +20,13 @@ is-mode-requires c κs = search needs
 in-state-requires : tie.Need-in-state-requires
 in-state-requires c κs = search needs
 
-turned : (a b : Bool) → a && b ≡ b && a
-turned true true = refl
-turned true false = refl
-turned false true = refl
-turned false false = refl
-
 returns : tie.Need-returns
 returns c =
     let x = c .before .before .before .args in
     rw (c .in-state .ensures, c .before .is-mode .ensures, c .before .before .is-matched .ensures)
     (ap
     (λ (b : Bool). b && is (x .state) OperationEnabled)
-    (matched-mode (x .wanted) (x .mode) Homing ∙ turned (matchedOf (x .wanted) (x .mode)) (isMode (x .wanted) Homing)))
+    (matched-mode (x .wanted) (x .mode) Homing ∙ and-comm (matchedOf (x .wanted) (x .mode)) (isMode (x .wanted) Homing)))
 
 pub homing-on-spec : {M : Type 1} → statement M
 homing-on-spec =

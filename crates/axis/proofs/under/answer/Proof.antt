@@ -3,8 +3,6 @@
 use mathlib.Core.Path.{ap, _∙_}
 use mir.Facts.{toZ-ofZ}
 use Rattle.patterns.proofs.Numbers.{read32}
-use Rattle.homing.specs.Phase.{homedIn}
-use Rattle.legs.specs.Events.{switchesIn}
 use Rattle.legs.specs.declared.events.Switches.{Switches}
 use Rattle.status.specs.Statusword.{limitedOf}
 use Rattle.ticks.specs.Motion.{driven}

@@ -1,10 +1,6 @@
 -- `axis::under::drive_after` meets its contract.
 -- Assumes nothing.
-use mathlib.Core.Path.{_≡_, ap, ap₂, _∙_}
-use Rattle.states.specs.declared.State.{State}
-use Rattle.modes.specs.declared.Mode.{Mode}
-use Rattle.modes.specs.Modes.{shownOf}
-use Rattle.cells.specs.Cells.{settingsIn, motionIn}
+use mathlib.Core.Path.{_∙_}
 use borrow.Author.Needs.{needs}
 use Rattle.axis.proofs.under.drive_after.Statement.{statement}
 use Rattle.axis.proofs.under.drive_after.Tie as tie

@@ -1,15 +1,12 @@
 -- `axis::under::in_homing` meets its contract: homing starts, steps, or stays as it is.
 -- Assumes nothing.
 use Prim.Native.Nat.{ℕ}
-use mathlib.Core.Path.{_≡_, sym, ap, _∙_}
-use mathlib.Core.Bool.{true, false, not, _&&_, _||_, or-true}
+use mathlib.Core.Path.{sym, ap, _∙_}
 use Rattle.patterns.proofs.Numbers.{read32}
 use Rattle.control.specs.Control.{rises}
 use Rattle.legs.specs.declared.events.Switches.{Switches}
-use Rattle.homing.specs.Phase.{Phase, homedIn, runningIn}
-use Rattle.homing.specs.Moving.{Stands}
-use Rattle.cells.specs.Cells.{settingsIn, motionIn}
-use Rattle.axis.specs.Calls.{phaseBy}
+use Rattle.homing.specs.Phase.{homedIn, runningIn}
+use Rattle.cells.specs.Cells.{motionIn}
 use Rattle.axis.proofs.Branches.{bits-of-tick, starts, steps, arrives, fresh-start, fresh-step, rests}
 use borrow.Author.Needs.{needs}
 use Rattle.axis.proofs.under.in_homing.Statement.{statement}

@@ -1,6 +1,5 @@
 -- `axis::under::out_of_homing` meets its contract.
 -- Assumes nothing.
-use mathlib.Core.Path.{_∙_}
 use borrow.Author.Needs.{needs}
 use Rattle.axis.proofs.under.out_of_homing.Statement.{statement}
 use Rattle.axis.proofs.under.out_of_homing.Tie as tie

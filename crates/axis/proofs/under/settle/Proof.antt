@@ -13,8 +13,8 @@ use borrow.Author.Needs.{needs}
 use Rattle.axis.proofs.under.settle.Statement.{statement}
 use Rattle.axis.proofs.under.settle.Tie as tie
 
-arrive-requires : tie.Need-arrive-requires
-arrive-requires c κs = search needs
+put-stand-requires : tie.Need-put-stand-requires
+put-stand-requires c κs = search needs
 
 speed-in-requires : tie.Need-speed-in-requires
 speed-in-requires c κs = search needs
@@ -24,9 +24,9 @@ returns c =
     let w = c .before .before in
     let b = w .before .before in
     let l = b .args .axis .now in (
-      subst (λ (x : ℤ). Moved l (arrived (motionIn l) (phaseOf (b .args .after .phase)) x) (w .arrive .last .0)) (toZ-ofZ (b .fits .position)) (w .arrive .ensures),
-      read32 (c .speed-in .result) (c .speed-in .ok) ∙ c .speed-in .ensures ∙ rw (settings-moved (w .arrive .ensures)),
+      subst (λ (x : ℤ). Moved l (arrived (motionIn l) (phaseOf (b .args .after .phase)) x) (w .put-stand .last .0)) (toZ-ofZ (b .fits .position)) (w .put-stand .ensures),
+      read32 (c .speed-in .result) (c .speed-in .ok) ∙ c .speed-in .ensures ∙ rw (settings-moved (w .put-stand .ensures)),
     )
 
 pub settle-spec : {M : Type 1} → statement M
-settle-spec = tie.close (tie.spec arrive-requires speed-in-requires returns)
+settle-spec = tie.close (tie.spec put-stand-requires speed-in-requires returns)

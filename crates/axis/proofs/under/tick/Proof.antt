@@ -2,7 +2,6 @@
 -- Assumes nothing.
 use mathlib.Core.Path.{_≡_, ap, _∙_}
 use Rattle.patterns.proofs.Numbers.{read32}
-use Rattle.states.specs.States.{liveOf}
 use Rattle.commands.specs.declared.Demand.{Demand}
 use Rattle.commands.specs.Commands.{demandOf, alarmOf}
 use Rattle.ticks.specs.Rules.{demandIn}
@@ -51,8 +50,8 @@ put-drive-requires c κs = search needs
 homing-on-requires : tie.Need-homing-on-requires
 homing-on-requires c κs = search needs
 
-home-requires : tie.Need-home-requires
-home-requires c κs = search needs
+homing-after-requires : tie.Need-homing-after-requires
+homing-after-requires c κs = search needs
 
 put-inputs-requires : tie.Need-put-inputs-requires
 put-inputs-requires c κs = search needs
@@ -80,7 +79,7 @@ returns c =
     let l = b .axis .now in
     let t = b .t in
     let demand : e .torque-demand .result ≡ demandIn (settingsIn l) t = e .torque-demand .ensures ∙ ap (demandOf (t .command)) (g .rated .ensures) in
-    ran l (p .put-drive .last .0) (h .home .last .0) (i .put-inputs .last .0) t
+    ran l (p .put-drive .last .0) (h .homing-after .last .0) (i .put-inputs .last .0) t
     (w .mode .ensures)
     demand
     (x .alarms .ensures ∙ ap (λ (y : Demand). alarmOf y (t .alarm)) demand)
@@ -90,11 +89,11 @@ returns c =
     (q .torque-in .ensures ∙ rw (v .is-live .ensures, u .is-matched .ensures))
     (p .put-drive .ensures)
     (o .homing-on .ensures)
-    (h .home .ensures)
+    (h .homing-after .ensures)
     (bits-of-tick t (sb .switch-bits .result) (sb .switch-bits .ensures))
     (read32 (t .position) (i .before .struct-told .given .1 .1 .0 .1))
     (i .put-inputs .ensures)
-    (c .answer .ensures ∙ rw (read32 (q .torque-in .result) (q .torque-in .ok), read32 (h .home .result) (h .home .ok)))
+    (c .answer .ensures ∙ rw (read32 (q .torque-in .result) (q .torque-in .ok), read32 (h .homing-after .result) (h .homing-after .ok)))
 
 pub tick-spec : {M : Type 1} → statement M
 tick-spec =
@@ -111,7 +110,7 @@ tick-spec =
     torque-in-requires
     put-drive-requires
     homing-on-requires
-    home-requires
+    homing-after-requires
     put-inputs-requires
     answer-requires
     returns)

@@ -1,12 +1,12 @@
--- `axis::under::arrive` meets its contract.
+-- `axis::under::put_stand` meets its contract.
 -- Assumes nothing.
 use mathlib.Core.Path.{sym, _∙_}
 use mir.Facts.{toZ-ofZ}
 use Rattle.homing.specs.Phase.{phaseOf}
 use Rattle.axis.proofs.Branches.{homed-there, not-homed}
 use borrow.Author.Needs.{needs}
-use Rattle.axis.proofs.under.arrive.Statement.{statement}
-use Rattle.axis.proofs.under.arrive.Tie as tie
+use Rattle.axis.proofs.under.put_stand.Statement.{statement}
+use Rattle.axis.proofs.under.put_stand.Tie as tie
 
 put-phase-requires : tie.Need-put-phase-requires
 put-phase-requires c κs = search needs
@@ -41,6 +41,6 @@ returns-2 c =
     let b = p .before .before .args in
     not-homed (b .axis .now) (p .put-phase .last .0) (phaseOf (b .phase)) (p .put-phase .ensures) (b .position) (sym (i .is-homed .ensures) ∙ c .if1 .left)
 
-pub arrive-spec : {M : Type 1} → statement M
-arrive-spec =
+pub put-stand-spec : {M : Type 1} → statement M
+put-stand-spec =
     tie.close (tie.spec put-phase-requires is-homed-requires put-home-requires returns returns-2)

@@ -6,8 +6,8 @@ use lib.IntN.{ℤ}
 use Rattle.settings.specs.declared.Settings.{Settings}
 use Rattle.states.specs.declared.State.{State}
 use Rattle.states.specs.Alarm.{latchedOf}
+use Rattle.control.specs.Control.{rises}
 use Rattle.modes.specs.declared.Mode.{Mode}
-use Rattle.commands.specs.declared.Demand.{Demand}
 use Rattle.commands.specs.declared.Command.{Command}
 use Rattle.commands.specs.declared.Command.the-variants.{Hybrid, Homing, Position, Torque, Rest}
 use Rattle.legs.specs.Events.{View}
@@ -18,7 +18,7 @@ use Rattle.position.specs.declared.Followed.the-variants.{Nothing}
 use Rattle.position.specs.Position.{followedOf}
 use Rattle.ticks.specs.declared.Tick.{Tick}
 use Rattle.ticks.specs.Motion.{Motion}
-use Rattle.ticks.specs.Rules.{modeAfter, matchedIn, demandIn, alarmIn, stateAfter, startsIn, viewOf}
+use Rattle.ticks.specs.Rules.{modeAfter, alarmIn, stateAfter, homingIn, viewWith}
 
 -- mode and drive state after a tick
 abbrev pub newMode : Motion → Tick → Mode
@@ -27,27 +27,27 @@ newMode a t = modeAfter (a .mode) (a .state) t
 abbrev pub newState : Settings → Motion → Tick → State
 newState s a t = stateAfter s (a .state) (a .control) t
 
--- the start tick, and what homing sees of any other
-abbrev pub starting : Settings → Motion → Tick → Bool
-starting s a t = startsIn (a .control) t (newMode a t) (newState s a t)
-
-abbrev pub newView : Settings → Motion → Tick → View
-newView s a t = viewOf (a .switches) (a .position) t (newMode a t) (newState s a t)
-
 -- "The start tick … picks a or c by HOM in that tick and counts no event"; a later tick is a step
 abbrev pub phaseAfter : Phase → ℕ → Bool → View → Phase
 phaseAfter phase method starting v = cond starting (startOf method (v .now .home)) (stepOf phase method v)
 
+-- the same, of a motion; on: homing is matched and the new state is Operation enabled
+abbrev pub phaseBy : Settings → Motion → Tick → Bool → Phase
+phaseBy s a t on = phaseAfter (a .phase) (s .method) (rises (a .control) (t .control) 4 && on) (viewWith (a .switches) (a .position) t on)
+
 unfoldable pub newPhase : Settings → Motion → Tick → Phase
-newPhase s a t = phaseAfter (a .phase) (s .method) (starting s a t) (newView s a t)
+newPhase s a t = phaseBy s a t (homingIn t (newMode a t) (newState s a t))
 
 -- "home is that tick's position": of the tick in which the axis becomes homed. A start under 35 homes anew, so home moves even if
 -- the axis was homed.
 abbrev pub homeAfter : ℤ → Bool → Bool → Bool → ℤ → ℤ
 homeAfter home starting before after position = cond (after && (starting || not before)) position home
 
+abbrev pub homeBy : Motion → Tick → Bool → Phase → ℤ
+homeBy a t on phase = homeAfter (a .home) (rises (a .control) (t .control) 4 && on) (homedIn (a .phase)) (homedIn phase) (t .position)
+
 abbrev pub newHome : Settings → Motion → Tick → ℤ
-newHome s a t = homeAfter (a .home) (starting s a t) (homedIn (a .phase)) (homedIn (newPhase s a t)) (t .position)
+newHome s a t = homeBy a t (homingIn t (newMode a t) (newState s a t)) (newPhase s a t)
 
 -- the target of a position command that is matched, enabled and homed
 abbrev pub targetOf : Command → Bool → State → Bool → Followed
@@ -74,25 +74,3 @@ motionWith t state mode alarm phase home =
 abbrev pub motionAfter : Settings → Motion → Tick → Motion
 motionAfter s a t =
     motionWith t (newState s a t) (newMode a t) (latchedOf (a .alarm) (a .state) (newState s a t) (alarmIn s t)) (newPhase s a t) (newHome s a t)
-
--- what a tick comes to: what is kept for the next tick, and what its answer needs besides
-pub record Moment : Type 0 where
-  pub motion : Motion
-  pub matched : Bool
-  pub demand : Demand
-  pub view : View
-  pub followed : Followed
-
--- a tick from a motion to another, with the torque that it demands
-abbrev pub momentAt : Motion → Tick → Motion → Demand → Moment
-momentAt before t after demand =
-    record {
-      motion = after;
-      matched = matchedIn t (after .mode);
-      demand = demand;
-      view = viewOf (before .switches) (before .position) t (after .mode) (after .state);
-      followed = targetOf (t .command) (matchedIn t (after .mode)) (after .state) (homedIn (after .phase));
-    }
-
-abbrev pub momentOf : Settings → Motion → Tick → Moment
-momentOf s a t = momentAt a t (motionAfter s a t) (demandIn s t)
