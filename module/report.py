@@ -14,8 +14,9 @@ EACH_ROW = "ratio of instructions to the baseline's, each row"
 # The routines of libgcc and newlib, by what they are for.
 ROUTINES = {
     "soft float": r"__aeabi_(c?f|i2f|ui2f)|__\w+sf",
-    "64-bit arithmetic": r"__aeabi_(u?ldivmod|lmul|llsl|llsr|lasr)|__\w+div(mod)?di|__gnu_u?ldivmod",
-    "leading zeros, for both": r"__clz",
+    "64-bit arithmetic": r"__aeabi_(u?ldivmod|lmul|llsl|llsr|lasr)|__muldi|__\w+div(mod)?di|__gnu_u?ldivmod",
+    "32-bit division": r"__aeabi_u?idiv|__u?divsi",
+    "leading zeros, for these": r"__clz",
     "memory": r"(__aeabi_)?mem",
 }
 
