@@ -33,7 +33,7 @@ pub fn mode(command: Command) -> Mode
 }
 
 // The target of a position command; 0 of any other.
-pub fn target(command: Command) -> i32
+pub fn position_target(command: Command) -> i32
     ensures { λ r. ⌜ r ≡ targetIn command ⌝ }
 {
     match command {

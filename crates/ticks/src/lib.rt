@@ -42,6 +42,6 @@ pub fn command_target(command: Command, mode: Mode, state: State, homed: bool) -
         matched & modes::is_mode(mode, Mode::Position),
         state,
         homed,
-        commands::target(command),
+        commands::position_target(command),
     )
 }

@@ -18,8 +18,8 @@ is-matched-requires c κs = search needs
 is-mode-requires : tie.Need-is-mode-requires
 is-mode-requires c κs = search needs
 
-target-requires : tie.Need-target-requires
-target-requires c κs = search needs
+position-target-requires : tie.Need-position-target-requires
+position-target-requires c κs = search needs
 
 follow-requires : tie.Need-follow-requires
 follow-requires c κs = search needs
@@ -30,12 +30,12 @@ returns c =
     let i = t .before in
     let m = i .before in
     let x = m .before .before .args in
-    let r : SFits w32 (t .target .result) = search needs in
+    let r : SFits w32 (t .position-target .result) = search needs in
     c .follow .ensures
-    ∙ rw (toZ-ofZ r, t .target .ensures, i .is-mode .ensures, m .is-matched .ensures, m .before .mode .ensures)
+    ∙ rw (toZ-ofZ r, t .position-target .ensures, i .is-mode .ensures, m .is-matched .ensures, m .before .mode .ensures)
     (target-of (x .state) (x .homed) (x .command) (x .mode))
 
 pub command-target-spec : {M : Type 1} → statement M
 command-target-spec =
     tie.close
-    (tie.spec mode-requires is-matched-requires is-mode-requires target-requires follow-requires returns)
+    (tie.spec mode-requires is-matched-requires is-mode-requires position-target-requires follow-requires returns)
