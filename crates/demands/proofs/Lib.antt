@@ -2,4 +2,6 @@ pub mod Activation
 pub mod Matches
 pub mod Kept
 pub mod Promised
+pub mod Acceptable
 pub mod Whole
+pub mod Came

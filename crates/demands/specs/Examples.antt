@@ -37,6 +37,7 @@ use Rattle.homing.specs.Places as places
 use Rattle.torque.specs.declared.LimitSet.the-variants.{Set1}
 use Rattle.torque.specs.Limits.{capOf}
 use Rattle.torque.specs.Torque.{torqueOf}
+use Rattle.speed.specs.Speed.{signedOf}
 use Rattle.position.specs.Position.{placeOf}
 use Rattle.status.specs.Statusword.{statuswordOf}
 use Rattle.demands.specs.Activation.{completedBy}
@@ -119,6 +120,10 @@ abbrev position : Reply → ℤ
 position (said v) = pos 0
 position (answered a) = a .position
 
+abbrev speed : Reply → ℤ
+speed (said v) = pos 0
+speed (answered a) = a .speed
+
 abbrev status : Reply → ℕ
 status (said v) = 0
 status (answered a) = a .status
@@ -194,6 +199,9 @@ table =
     -- method 23, HOM off, started at 100: 110 on, 112 off, 108 on, 103 off is homed at 103, where target 0 is
     ∷ sameWords (map status (after enabled rehearsed)) (0x0237 ∷ 0x0237 ∷ 0x0237 ∷ 0x0237 ∷ 0x1737 ∷ 0x1337 ∷ [])
     ∷ sameCounts (map position (after (enabled ++ take 5 rehearsed) (drop 5 rehearsed))) (pos 103 ∷ [])
+    -- its speeds: fast forward, slow backward, 0 once homed; 0 in a halted tick
+    ∷ sameCounts (map speed (after enabled rehearsed)) (pos 20000 ∷ minus 1000 ∷ minus 1000 ∷ minus 1000 ∷ pos 0 ∷ pos 0 ∷ [])
+    ∷ sameCounts (map speed (after enabled (start 100 off ∷ halted 105 off ∷ at 106 off ∷ []))) (pos 20000 ∷ pos 0 ∷ pos 20000 ∷ [])
     ∷ []
 
 -- the last reply has bit 8 set: homed
@@ -253,7 +261,7 @@ all [] = true
 all (b ∷ bs) = b && all bs
 
 holds : all table ≡ true
-unfolding table words-S modulo signed wrapped floorDiv clamped methodOk gearedOf inReach limitsVerdict total checksumOf settingsOf fieldOk startOf fieldOf endVerdict endOf readOf controlCommandOf nextOf quotientOf sizeOf negative wholeOf ofBits sub mul div ofInt eventCounts limitCounts rowOf legAt places.entered places.runningOf places.startOf capOf torqueOf placeOf statuswordOf answerIn answeredIn wordOf newPhase tickOf
+unfolding table words-S modulo signed wrapped floorDiv clamped methodOk gearedOf inReach limitsVerdict total checksumOf settingsOf fieldOk startOf fieldOf endVerdict endOf readOf controlCommandOf nextOf quotientOf sizeOf negative wholeOf ofBits sub mul div ofInt eventCounts limitCounts rowOf legAt places.entered places.runningOf places.startOf signedOf capOf torqueOf placeOf statuswordOf answerIn answeredIn wordOf newPhase tickOf
 holds = refl
 
 homed-holds : all homed-table ≡ true

@@ -1,5 +1,5 @@
--- Demands 1 and 2 over lists of events: no tick after a refused word tells that it came, and the words of acceptable settings activate
--- them, whatever ticks fall between.
+-- Demands 1 and 2 over lists of events: no tick after a refused word tells that it came; the words of acceptable settings activate them,
+-- whatever ticks fall between, and no other words do.
 -- Assumes nothing.
 use Prim.Native.Nat.{ℕ}
 use mathlib.Core.Path.{_≡_}
@@ -11,13 +11,14 @@ use Rattle.checks.specs.Check.{acceptable}
 use Rattle.words.specs.Encode.{wordsOf}
 use Rattle.reader.specs.Pending.{Pending}
 use Rattle.reader.specs.Read.{emptyPending}
+use Rattle.roundtrip.specs.Stream.{EndsIn}
 use Rattle.states.specs.States.{liveOf}
 use Rattle.ticks.specs.Motion.{idled}
 use Rattle.rules.specs.Axis.{Set, Axis}
 use Rattle.ticks.specs.declared.Tick.{Tick}
 use Rattle.rules.specs.Word.{withPending, wordOf}
 use Rattle.demands.specs.Events.{Event, word, tick}
-use Rattle.demands.specs.Replies.{Reply, said, answered, axisFrom, repliesFrom}
+use Rattle.demands.specs.Replies.{Reply, said, answered, axisFrom, axisOf, repliesFrom}
 
 -- no tick sees what is pending: with other pending settings any ticks are answered the same
 abbrev pub PendingUnseen : Type 0
@@ -61,3 +62,17 @@ abbrev pub RoundTrip : Type 0
 RoundTrip =
     (a : Axis) (s : Settings) (es : List Event) (w : ℕ) → acceptable s ≡ true → wordsIn es ++ w ∷ [] ≡ wordsOf s
     → liveOf (axisFrom a es .motion .state) ≡ false → Activates a s es w
+
+-- the word that brought settings into force, and what came before it and after: the words up to it end in the fifteen words of the settings,
+-- ticks aside, and the settings are acceptable
+pub record Came (s : Settings) (es : List Event) : Type 0 where
+  pub before : List Event
+  pub last : ℕ
+  pub after : List Event
+  pub cut : es ≡ before ++ word last ∷ after
+  pub words : EndsIn s (wordsIn before ++ last ∷ [])
+
+-- "exactly one list of fifteen words", of the whole axis: after every list, refused words and ticks included, settings that are in force came by
+-- their own fifteen words
+abbrev pub CameByTheirWords : Type 0
+CameByTheirWords = (es : List Event) (s : Settings) → axisOf es .active ≡ Set s → Came s es

@@ -6,9 +6,10 @@ use mathlib.Core.Bool.{true}
 use native.Mathlib.Omega.{arith}
 use borrow.Author.Tests.{leb-true}
 use lib.Dec.{leb}
+use lib.IntN.{ℤ}
 use Rattle.settings.specs.declared.Settings.{Settings}
 use Rattle.settings.specs.Ranges.{inRange}
-use Rattle.gears.specs.Gear.{cappedNumerator, divisorOf}
+use Rattle.gears.specs.Gear.{cappedNumerator, divisorOf, gearedOf, plainGear}
 use Rattle.settings.proofs.Within.{within, both}
 
 module _ (s : Settings) (e : inRange s ≡ true) where
@@ -21,3 +22,7 @@ module _ (s : Settings) (e : inRange s ≡ true) where
   denominator-kept =
       let b = both (leb 1 (s .denominator)) (leb (s .denominator) (2 ^ 20)) (within s e .denominator) in
       omega (arith, leb-true 1 (s .denominator) (b .0), leb-true (s .denominator) (2 ^ 20) (b .1))
+
+  pub gear-plain : (position : ℤ) → gearedOf s position ≡ plainGear s position
+  unfolding gearedOf
+  gear-plain position = rw (numerator-kept, denominator-kept)

@@ -19,6 +19,11 @@ divisorOf denominator = max 1 (min denominator (2 ^ 20))
 unfoldable pub gearedOf : Settings → ℤ → ℤ
 gearedOf s position = floorDiv ((position -ℤ s .offset) *ℤ pos (cappedNumerator s)) (divisorOf (s .denominator))
 
+-- the same with no guard: "subtract offset, times numerator, over denominator, rounded towards minus infinity". Of settings in range the two
+-- are one (`proofs/Guards.antt`)
+abbrev pub plainGear : Settings → ℤ → ℤ
+plainGear s position = floorDiv ((position -ℤ s .offset) *ℤ pos (s .numerator)) (s .denominator)
+
 -- not "beyond ±2^30 counts"
 abbrev pub withinReach : Settings → ℤ → Bool
 withinReach s position = leZ (negℤ (pos (2 ^ 30))) (gearedOf s position) && leZ (gearedOf s position) (pos (2 ^ 30))

@@ -103,9 +103,30 @@ complete =
     ∷ start 23 100 off (at 110 homeAndPositive ∷ at 108 off ∷ [])
     -- route c
     ∷ start 23 100 home (at 95 off ∷ [])
+    -- 24 to 26: a, b, c
+    ∷ start 24 100 off (at 110 home ∷ at 108 off ∷ at 110 home ∷ [])
+    ∷ start 24 100 off (at 120 positive ∷ at 115 home ∷ at 112 off ∷ at 114 home ∷ [])
+    ∷ start 24 100 home (at 98 off ∷ at 100 home ∷ [])
+    ∷ start 25 100 off (at 105 home ∷ at 110 off ∷ at 108 home ∷ [])
+    ∷ start 25 100 off (at 120 positive ∷ at 115 home ∷ at 117 off ∷ at 115 home ∷ [])
+    ∷ start 25 100 home (at 105 off ∷ at 103 home ∷ [])
+    ∷ start 26 100 off (at 110 home ∷ at 108 off ∷ at 110 home ∷ at 112 off ∷ [])
+    ∷ start 26 100 off (at 120 positive ∷ at 115 home ∷ at 117 off ∷ [])
     ∷ start 26 100 home (at 105 off ∷ [])
+    -- 27 to 30: the same turned
+    ∷ start 27 100 off (at 90 home ∷ at 92 off ∷ [])
+    ∷ start 27 100 off (at 80 negative ∷ at 85 home ∷ at 83 off ∷ at 85 home ∷ at 87 off ∷ [])
+    ∷ start 27 100 home (at 105 off ∷ [])
+    ∷ start 28 100 off (at 90 home ∷ at 92 off ∷ at 90 home ∷ [])
     -- route b of 28: NOT turns, and POT is not looked at
     ∷ start 28 100 off (at 95 positive ∷ at 90 negative ∷ at 95 home ∷ at 99 off ∷ at 95 home ∷ [])
+    ∷ start 28 100 home (at 102 off ∷ at 100 home ∷ [])
+    ∷ start 29 100 off (at 95 home ∷ at 90 off ∷ at 92 home ∷ [])
+    ∷ start 29 100 off (at 80 negative ∷ at 85 home ∷ at 83 off ∷ at 85 home ∷ [])
+    ∷ start 29 100 home (at 95 off ∷ at 97 home ∷ [])
+    ∷ start 30 100 off (at 90 home ∷ at 92 off ∷ at 90 home ∷ at 88 off ∷ [])
+    ∷ start 30 100 off (at 80 negative ∷ at 85 home ∷ at 83 off ∷ [])
+    ∷ start 30 100 home (at 95 off ∷ [])
     -- 33 and 34, whatever HOM is; 35 by the start tick alone
     ∷ start 33 100 off (at 99 index ∷ [])
     ∷ start 33 100 home (at 99 index ∷ [])

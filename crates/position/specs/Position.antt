@@ -10,7 +10,7 @@ use Rattle.states.specs.declared.State.{State}
 use Rattle.states.specs.declared.State.the-variants.{OperationEnabled}
 use Rattle.states.specs.States.{is}
 use Rattle.settings.specs.declared.Settings.{Settings}
-use Rattle.gears.specs.Gear.{gearedOf}
+use Rattle.gears.specs.Gear.{gearedOf, plainGear}
 use Rattle.position.specs.declared.Followed.{Followed}
 use Rattle.position.specs.declared.Followed.the-variants.{Target, Nothing}
 
@@ -29,6 +29,11 @@ placeOf s home target = wrapped (home +ℤ gearedOf s (limitedOf s target))
 abbrev pub positionOf : Settings → ℤ → Followed → ℤ → ℤ
 positionOf s home (Target target) actual = placeOf s home target
 positionOf s home Nothing actual = actual
+
+-- the same with no guard
+abbrev pub plainPosition : Settings → ℤ → Followed → ℤ → ℤ
+plainPosition s home (Target target) actual = wrapped (home +ℤ plainGear s (limitedOf s target))
+plainPosition s home Nothing actual = actual
 
 -- "the followed target was clamped": it is outside the stops
 abbrev pub outsideOf : Settings → ℤ → Bool

@@ -22,6 +22,7 @@ use Rattle.words.proofs.Widths.{Below}
 use Rattle.reader.specs.Pending.{Pending, Reading, Stored, Complete}
 use Rattle.reader.specs.Read.{emptyPending, dueKind, started, kept, readOf, outcomeNumber}
 use Rattle.reader.proofs.Accepted.{AcceptedBy, begins, keeps, closes, accepted-by}
+use Rattle.roundtrip.specs.Unique.{OneList}
 use Rattle.roundtrip.specs.ReadInto.{ReadInto, last, more}
 use Rattle.roundtrip.proofs.Values.{InFields}
 use Rattle.roundtrip.proofs.Placed.{placed, placed-all}
@@ -145,3 +146,6 @@ back (more {p} {w} {ws} {s} z a) n = go (rest a (omega arith)) (accepted-by p w 
         let c = due-field (kindOf w) (p .count) d l in
         let m = long (kept p (kindOf w) (dataOf w)) (kindOf w + 1) ws s (after p (kept p (kindOf w) (dataOf w)) w ws s (ap left f) r (kindOf w + 1) (omega arith)) in
         absurd (o (omega arith))
+
+pub one-list : OneList
+one-list p ws s r n = back r n

@@ -19,6 +19,7 @@ use Rattle.reader.specs.Pending.{Pending, Reading}
 use Rattle.kinds.specs.Fields.{fieldOk}
 use Rattle.reader.specs.Read.{dueKind, stored, complete, started, kept, startOf, fieldOf, endVerdict, endOf, readOf, outcomeNumber}
 use Rattle.reader.proofs.Steps.{read-start, read-end, read-field}
+use Rattle.roundtrip.specs.Unique.{ReadsBack}
 use Rattle.roundtrip.specs.ReadInto.{ReadInto, last, more}
 use Rattle.roundtrip.proofs.Values.{InFields, values-in-fields, values-read}
 use Rattle.roundtrip.proofs.Placed.{placed, placed-all}
@@ -86,3 +87,6 @@ module _ (s : Settings) (a : acceptable s ≡ true) where
   pub there : (p : Pending) → ReadInto p (wordsOf s) s
   unfolding wordsOf wordsFrom valuesOf
   there p = next p started 1 _ s (begin p) after-start
+
+pub reads-back : ReadsBack
+reads-back = there

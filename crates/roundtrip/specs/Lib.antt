@@ -1,3 +1,4 @@
 pub mod ReadInto
+pub mod Unique
 pub mod Stream
 pub mod Examples

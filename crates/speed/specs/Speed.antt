@@ -25,3 +25,14 @@ foundSpeed s found.Nothing = pos 0
 -- the speed of the leg in which the axis moves after the tick
 abbrev pub speedOf : Settings → Phase → Bool → ℤ
 speedOf s phase halted = foundSpeed s (movingLeg (s .method) phase halted)
+
+-- the same with no guard: a leg's speed is fast or slow, with the leg's sign
+abbrev pub plainSigned : Bool → ℕ → ℤ
+plainSigned forward speed = cond forward (pos speed) (negℤ (pos speed))
+
+abbrev pub plainFound : Settings → Found → ℤ
+plainFound s (found.Leg leg) = plainSigned (leg .forward) (cond (leg .fast) (s .fast) (s .slow))
+plainFound s found.Nothing = pos 0
+
+abbrev pub plainSpeed : Settings → Phase → Bool → ℤ
+plainSpeed s phase halted = plainFound s (movingLeg (s .method) phase halted)

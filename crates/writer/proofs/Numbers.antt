@@ -1,13 +1,9 @@
 -- The writer gives the number of the first case that holds, and accepts exactly the acceptable.
 -- Assumes nothing.
-use Prim.Native.Nat.{ℕ, _≤_}
 use mathlib.Core.Path.{_≡_, refl}
 use mathlib.Core.Bool.{Bool, true, false, cond}
-use mathlib.Core.List.{List}
-use mathlib.Core.Logic.{_↔_}
 use borrow.Author.Tests.{le-ltb}
 use lib.ListN.{length}
-use Rattle.settings.specs.declared.Settings.{Settings}
 use Rattle.settings.specs.declared.Refusal.the-variants.{BufferTooShort}
 use Rattle.settings.specs.declared.Verdict.the-variants.{Accepted, Refused}
 use Rattle.settings.specs.Refusal.{verdictNumber, firstOf}
@@ -15,7 +11,7 @@ use Rattle.checks.specs.Check.{acceptable, verdictOf}
 use Rattle.checks.specs.Cases as checks
 use Rattle.checks.proofs.Numbers.{check-number, accepts}
 use Rattle.writer.specs.Write.{bufferTooShort, writeVerdict}
-use Rattle.writer.specs.Cases.{Numbers}
+use Rattle.writer.specs.Cases.{Numbers, AcceptsExactly}
 
 pub write-number : Numbers
 unfolding writeVerdict
@@ -25,6 +21,6 @@ write-number s buffer = go (bufferTooShort buffer)
     go true = refl
     go false = check-number s
 
-pub accepts-exactly : (s : Settings) (buffer : List ℕ) → 15 ≤ length buffer → (writeVerdict s buffer ≡ Accepted) ↔ (acceptable s ≡ true)
+pub accepts-exactly : AcceptsExactly
 unfolding writeVerdict
 accepts-exactly s buffer h = rw (le-ltb (length buffer) 15 h) (accepts s)

@@ -1,0 +1,101 @@
+-- Settings in force are acceptable: they are the last ones that words completed, and only acceptable ones are completed.
+-- Assumes nothing.
+use Prim.Native.Nat.{ℕ, _^_, _<_}
+use mathlib.Core.Path.{_≡_, refl, sym, ap, subst, _∙_}
+use mathlib.Core.Bool.{Bool, true, false, cond, _&&_}
+use mathlib.Core.List.{List, [], _∷_, _++_}
+use native.Mathlib.Omega.{arith}
+use Rattle.counts.specs.Bit.{bitOf}
+use Rattle.counts.specs.Wrap.{signed}
+use Rattle.settings.specs.declared.Settings.{Settings}
+use Rattle.settings.specs.Ranges.{inRange}
+use Rattle.settings.proofs.Within.{both}
+use Rattle.gears.specs.Gear.{inReach}
+use Rattle.checks.specs.Check.{limitsApart, acceptable}
+use Rattle.words.specs.Word.{dataOf}
+use Rattle.words.specs.Encode.{wordsOf}
+use Rattle.words.proofs.Bits.{position-kept}
+use Rattle.states.specs.States.{liveOf}
+use Rattle.commands.specs.Commands.{wholeDemand}
+use Rattle.torque.proofs.Guard.{torque-plain}
+use Rattle.speed.proofs.Guard.{speed-plain}
+use Rattle.position.proofs.Guard.{position-plain}
+use Rattle.ticks.specs.Rules.{demandIn}
+use Rattle.ticks.specs.After.{motionAfter}
+use Rattle.answers.specs.Answer.{followedIn, torqueOn, answerIn, answeredIn}
+use Rattle.rules.specs.Axis.{Active, Nothing, Set}
+use Rattle.rules.specs.Tick.{tickUnder, tickOf}
+use Rattle.demands.specs.Events.{Event, word, tick}
+use Rattle.demands.specs.Replies.{axisOf}
+use Rattle.words.specs.Word.{sameWords}
+use Rattle.demands.specs.Activation.{lastFifteen, carried, completedBy}
+use Rattle.demands.specs.Known.{Known, atFirst, activates, afterWord, afterTick, next, knownFrom}
+use Rattle.demands.specs.Acceptable.{InForceAcceptable, Plain, PlainAnswers, PlainData}
+use Rattle.demands.proofs.Kept.{matches}
+
+-- settings, if there are any, are acceptable
+abbrev Good : Active → Type 0
+Good Nothing = Unit
+Good (Set s) = acceptable s ≡ true
+
+completed-good : (ws : List ℕ) → Good (completedBy ws)
+unfolding completedBy
+completed-good ws = go (sameWords (lastFifteen ws) (wordsOf (carried ws))) (acceptable (carried ws)) refl
+  where
+    go : (b c : Bool) → acceptable (carried ws) ≡ c → Good (cond (b && c) (Set (carried ws)) Nothing)
+    go true true e = e
+    go true false e = tt
+    go false c e = tt
+
+activates-good : (k : Known) (ws : List ℕ) → Good (activates k ws)
+activates-good k ws = go (liveOf (k .state))
+  where
+    go : (live : Bool) → Good (cond live Nothing (completedBy ws))
+    go true = tt
+    go false = completed-good ws
+
+next-good : (k : Known) (e : Event) → Good (k .settings) → Good (next k e .settings)
+next-good k (word w) g = go (activates k ws) (activates-good k ws)
+  where
+    ws : List ℕ
+    ws = k .words ++ w ∷ []
+
+    go : (x : Active) → Good x → Good (afterWord x k ws .settings)
+    go Nothing h = g
+    go (Set s) h = h
+next-good k (tick t) g = go (k .settings)
+  where
+    go : (x : Active) → Good (afterTick x k t .settings)
+    go Nothing = g
+    go (Set s) = g
+
+known-good : (k : Known) (es : List Event) → Good (k .settings) → Good (knownFrom k es .settings)
+known-good k [] g = g
+known-good k (e ∷ es) g = known-good (next k e) es (next-good k e g)
+
+pub in-force-acceptable : InForceAcceptable
+in-force-acceptable es s e = subst Good (sym (matches es .active) ∙ e) (known-good atFirst es tt)
+
+in-range : (s : Settings) → acceptable s ≡ true → inRange s ≡ true
+unfolding acceptable
+in-range s e = both (inRange s) (limitsApart s) (both (inRange s && limitsApart s) (inReach s) e .0) .0
+
+pub plain-answers : PlainAnswers
+unfolding tickOf answeredIn answerIn
+plain-answers es t s e =
+    let a = axisOf es in
+    let m = motionAfter s (a .motion) t in
+    let r = in-range s (in-force-acceptable es s e) in
+    subst
+    (λ (x : Active). Plain s t (tickUnder x a t .axis .motion) (tickUnder x a t .answer))
+    (sym e)
+    (record {
+      torque = torque-plain s r (t .set) (torqueOn t m) (wholeDemand (demandIn s t));
+      speed = speed-plain s r (m .phase) (bitOf (t .control) 8);
+      position = position-plain s r (m .home) (followedIn t m) (t .position);
+    })
+
+pub plain-data : PlainData
+plain-data d kind w e =
+    let h : dataOf w < 2 ^ 28 = omega arith in
+    position-kept d kind (rw e h) ∙ ap (signed 28) e
