@@ -146,7 +146,7 @@ fn reads_left(reads: u64, open: bool) -> u64
 }
 
 // Answers standard input to its end. A proved loop has to end: it counts its reads down from a number that no run uses up.
-pub fn run() {
+fn converse() {
     let mut line = [0u8; 256];
     let mut console = fresh();
     let mut reads = u64::MAX;
@@ -156,4 +156,34 @@ pub fn run() {
         reads = reads_left(reads, turn.open);
     }
     finish(console, &line);
+}
+
+fn print_usage() {
+    io::write_all(
+        STDOUT_FILENO,
+        b"It takes no arguments: it answers lines of standard input, one by one.\n",
+    );
+    io::write_all(STDOUT_FILENO, b"  word HEX8\n");
+    io::write_all(
+        STDOUT_FILENO,
+        b"  tick HEX4 COMMAND at I32 SWITCHES STILL SET HEX8\n",
+    );
+    io::write_all(
+        STDOUT_FILENO,
+        b"  sheet LENGTH METHOD FAST SLOW OFFSET NUM DEN LOWER UPPER MAX P1 N1 P2 N2 OPTION RATED\n",
+    );
+    io::write_all(STDOUT_FILENO, b"  fresh\n");
+    io::write_all(
+        STDOUT_FILENO,
+        b"docs/LINES.md says what each word of a line means.\n",
+    );
+}
+
+// The program itself. An argument is answered by what the program is for.
+pub fn run() {
+    if os::arg_count() > 1 {
+        print_usage();
+    } else {
+        converse();
+    }
 }

@@ -12,7 +12,7 @@ use Rattle.states.specs.declared.State.the-variants.{NotReady, SwitchOnDisabled
 use Rattle.states.specs.Status.{statusOf}
 use Rattle.modes.specs.declared.Mode.{Mode}
 use Rattle.modes.specs.declared.Mode.the-variants.{Homing}
-use Rattle.status.specs.Statusword.{Flags, weightOf, reachedOf, acknowledgedOf, homingErrorOf, statuswordOf}
+use Rattle.status.specs.Statusword.{Flags, weightOf, reachedOf, attainedOrFollowing, homingErrorOf, statuswordOf}
 
 -- the drive's bits stay below bit 10, and bit 8 is none of them
 pub status-low : (s : State) → (statusOf s < 1024) × (statusOf s / 2 ^ 8 % 2 ≡ 0)
@@ -57,7 +57,7 @@ module _ (s : State) (mode : Mode) (f : Flags) where
 
   abbrev parts : ℕ
   parts =
-      word (statusOf s) (flag (f .homed)) (flag (reachedOf mode f)) (flag (f .limited)) (flag (acknowledgedOf mode f)) (flag (homingErrorOf mode f))
+      word (statusOf s) (flag (f .homed)) (flag (reachedOf mode f)) (flag (f .limited)) (flag (attainedOrFollowing mode f)) (flag (homingErrorOf mode f))
 
   in-parts : statuswordOf s mode f ≡ parts
   unfolding statuswordOf
@@ -66,7 +66,7 @@ module _ (s : State) (mode : Mode) (f : Flags) where
         factor (f .homed) (2 ^ 8),
         factor (reachedOf mode f) (2 ^ 10),
         factor (f .limited) (2 ^ 11),
-        factor (acknowledgedOf mode f) (2 ^ 12),
+        factor (attainedOrFollowing mode f) (2 ^ 12),
         factor (homingErrorOf mode f) (2 ^ 13),
       )
 
@@ -75,16 +75,16 @@ module _ (s : State) (mode : Mode) (f : Flags) where
       let l = status-low s in
       rw in-parts (shown (f .homed) parts 8 (bit-8 _ _ _ _ _ _ (l .0) (l .1) (one (f .homed))))
 
-  bit-12-acknowledged : bitOf (statuswordOf s mode f) 12 ≡ acknowledgedOf mode f
-  bit-12-acknowledged =
+  bit-12-shown : bitOf (statuswordOf s mode f) 12 ≡ attainedOrFollowing mode f
+  bit-12-shown =
       let l = status-low s in
       rw in-parts
-      (shown (acknowledgedOf mode f) parts 12
-      (bit-12 _ _ _ _ _ _ (l .0) (l .1) (one (f .homed)) (one (reachedOf mode f)) (one (f .limited)) (one (acknowledgedOf mode f))))
+      (shown (attainedOrFollowing mode f) parts 12
+      (bit-12 _ _ _ _ _ _ (l .0) (l .1) (one (f .homed)) (one (reachedOf mode f)) (one (f .limited)) (one (attainedOrFollowing mode f))))
 
 or-false : (b : Bool) → b || false ≡ b
 or-false true = refl
 or-false false = refl
 
 pub bit-12-homed : (s : State) (f : Flags) → bitOf (statuswordOf s Homing f) 12 ≡ f .homed
-bit-12-homed s f = bit-12-acknowledged s Homing f ∙ or-false (f .homed)
+bit-12-homed s f = bit-12-shown s Homing f ∙ or-false (f .homed)

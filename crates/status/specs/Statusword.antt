@@ -43,9 +43,9 @@ limitedOf now clamped = now .positive || now .negative || clamped
 abbrev pub reachedOf : Mode → Flags → Bool
 reachedOf mode f = isMode mode Homing && not (f .running)
 
--- bit 12 (homing attained, set-point acknowledge): "In mode 6: … 12 homed"; "In mode 8: 12 when a target is followed"
-abbrev pub acknowledgedOf : Mode → Flags → Bool
-acknowledgedOf mode f = (isMode mode Homing && f .homed) || (isMode mode Position && f .following)
+-- bit 12 (homing attained; drive follows the command value): "In mode 6: … 12 homed"; "In mode 8: 12 when a target is followed"
+abbrev pub attainedOrFollowing : Mode → Flags → Bool
+attainedOrFollowing mode f = (isMode mode Homing && f .homed) || (isMode mode Position && f .following)
 
 -- bit 13 (homing error): "In mode 6: … 13 error"
 abbrev pub homingErrorOf : Mode → Flags → Bool
@@ -58,7 +58,7 @@ statuswordOf s mode f =
     + weightOf (f .homed) (2 ^ 8)
     + weightOf (reachedOf mode f) (2 ^ 10)
     + weightOf (f .limited) (2 ^ 11)
-    + weightOf (acknowledgedOf mode f) (2 ^ 12)
+    + weightOf (attainedOrFollowing mode f) (2 ^ 12)
     + weightOf (homingErrorOf mode f) (2 ^ 13)
 
 -- The same by where homing stands: contracts of the code's own helpers.

@@ -1,11 +1,11 @@
--- `console::run` meets its contract: the number of reads that are left falls.
+-- `console::converse` meets its contract: the number of reads that are left falls.
 -- Assumes nothing.
 use mathlib.Core.Path.{_≡_, refl, sym, _∙_}
 use native.Mathlib.Omega.{arith}
 use lib.ListN.{length}
 use borrow.Author.Needs.{needs}
-use Rattle.console.proofs.run.Statement.{statement}
-use Rattle.console.proofs.run.Tie as tie
+use Rattle.console.proofs.converse.Statement.{statement}
+use Rattle.console.proofs.converse.Tie as tie
 
 abbrev Inv-loop : tie.InvT-loop
 Inv-loop line₀ console₀ reads₀ line console reads = 256 ≡ length line
@@ -45,8 +45,8 @@ finish-requires c κs = search needs
 returns : tie.Need-returns Inv-loop μ-loop
 returns c = search needs
 
-pub run-spec : {M : Type 1} → statement M
-run-spec =
+pub converse-spec : {M : Type 1} → statement M
+converse-spec =
     tie.close
     (tie.spec
     Inv-loop
