@@ -15,7 +15,7 @@ pub const FIELDS: [u32; 15] = [23, 20000, 1000, 0, 3, 2, -1000i32 as u32, 1000, 
 pub const NAMES: [&str; 16] = [
     "settings word: start",
     "settings word: one between, mean of 13",
-    "settings word: end, activates",
+    "settings word: end, takes over",
     "settings word: refused (1)",
     "tick refused (8)",
     "tick: rest",

@@ -15,7 +15,7 @@ use Rattle.position.specs.declared.Followed.the-variants.{Target, Nothing}
 use Rattle.position.specs.Position.{positionOf, clampedOf}
 use Rattle.homing.specs.Phase.{homedIn}
 use Rattle.speed.specs.Speed.{speedOf}
-use Rattle.status.specs.Statusword.{Flags, flagsIn, limitedOf, statuswordOf}
+use Rattle.status.specs.Statusword.{Flags, flagsIn, limitActive, statuswordOf}
 use Rattle.ticks.specs.declared.Tick.{Tick}
 use Rattle.ticks.specs.Motion.{Motion}
 use Rattle.ticks.specs.Rules.{matchedIn, demandIn}
@@ -35,7 +35,7 @@ abbrev pub followedIn : Tick → Motion → Followed
 followedIn t a = targetOf (t .command) (matchedIn t (a .mode)) (a .state) (homedIn (a .phase))
 
 abbrev pub flagsOf : Settings → Tick → Motion → Flags
-flagsOf s t a = flagsIn (a .phase) (isFollowing (followedIn t a)) (limitedOf (t .switches) (clampedOf s (followedIn t a)))
+flagsOf s t a = flagsIn (a .phase) (isFollowing (followedIn t a)) (limitActive (t .switches .positive) (t .switches .negative) (clampedOf s (followedIn t a)))
 
 -- in Operation enabled or Quick stop active with a matched command
 abbrev pub torqueOn : Tick → Motion → Bool

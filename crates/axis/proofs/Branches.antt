@@ -12,7 +12,7 @@ use Rattle.counts.specs.declared.Movement.{Movement}
 use Rattle.counts.specs.Movement.{movementOf}
 use Rattle.settings.specs.declared.Settings.{Settings}
 use Rattle.settings.specs.declared.Refusal.the-variants.{NoSettings}
-use Rattle.control.specs.Control.{rises}
+use Rattle.control.specs.Control.{bitRises}
 use Rattle.modes.specs.Modes.{modeNumber}
 use Rattle.commands.specs.declared.Demand.{Demand}
 use Rattle.commands.specs.Commands.{wholeDemand}
@@ -32,7 +32,7 @@ use Rattle.torque.specs.Torque.{torqueOf}
 use Rattle.position.specs.declared.Followed.{Followed}
 use Rattle.position.specs.declared.Followed.the-variants.{Target, Nothing}
 use Rattle.position.specs.Position.{positionOf, clampedOf}
-use Rattle.status.specs.Statusword.{flagsIn, limitedOf, statuswordOf}
+use Rattle.status.specs.Statusword.{flagsIn, limitActive, statuswordOf}
 use Rattle.ticks.specs.declared.Tick.{Tick}
 use Rattle.ticks.specs.Motion.{Motion, phased, homeAt}
 use Rattle.ticks.specs.Rules.{matchedIn, demandIn, viewWith}
@@ -79,7 +79,7 @@ same-stand e f g h = rw (← e, ← f, ← g) h
 
 module _ (l : List ℕ) (t : Tick) {method : ℕ} {r : Stand} (e : method ≡ settingsIn l .method) where
   pub starts : {home halted : Bool} → let a = motionIn l in
-      rises (a .control) (t .control) 4 ≡ true → home ≡ t .switches .home → halted ≡ bitOf (t .control) 8
+      bitRises (a .control) (t .control) 4 ≡ true → home ≡ t .switches .home → halted ≡ bitOf (t .control) 8
       → Stands method (startOf method home) halted r → Stands (settingsIn l .method) (phaseBy (settingsIn l) a t true) (bitOf (t .control) 8) r
   starts rising home halted =
       let a = motionIn l in
@@ -88,7 +88,7 @@ module _ (l : List ℕ) (t : Tick) {method : ℕ} {r : Stand} (e : method ≡ se
       same-stand e (ap₂ startOf e home ∙ start) halted
 
   pub steps : {phase : Phase} {v : View} → let a = motionIn l in
-      rises (a .control) (t .control) 4 ≡ false → phase ≡ a .phase
+      bitRises (a .control) (t .control) 4 ≡ false → phase ≡ a .phase
       → v ≡ viewWith (a .switches) (a .position) t true → Stands method (stepOf phase method v) (v .halted) r
       → Stands (settingsIn l .method) (phaseBy (settingsIn l) a t true) (bitOf (t .control) 8) r
   steps {phase} {v} rising p w =
@@ -101,7 +101,7 @@ module _ (l : List ℕ) (t : Tick) {method : ℕ} {r : Stand} (e : method ≡ se
 pub arrives : (l : List ℕ) (t : Tick) (m : List ℕ) (v : ℤ) (r : Stand) {x : ℤ} → let a = motionIn l in
     let s = settingsIn l in
     Stands (s .method) (phaseBy s a t true) (bitOf (t .control) 8) r
-    → rises (a .control) (t .control) 4 && true || not (homedIn (a .phase)) ≡ true
+    → bitRises (a .control) (t .control) 4 && true || not (homedIn (a .phase)) ≡ true
     → x ≡ t .position → Moved l (arrived a (phaseOf (r .phase)) x) m → v ≡ foundSpeed s (legInDigit (r .leg)) → Homes l t true m v
 arrives l t m v r {x} stands fresh position moved speed =
     let s = settingsIn l in
@@ -137,7 +137,7 @@ unmoving Homed method false e = refl
 unmoving Failed method false e = refl
 
 pub rests : (l : List ℕ) (t : Tick) → let a = motionIn l in
-    rises (a .control) (t .control) 4 ≡ false → runningIn (a .phase) ≡ false → Homes l t true l (pos 0)
+    bitRises (a .control) (t .control) 4 ≡ false → runningIn (a .phase) ≡ false → Homes l t true l (pos 0)
 rests l t e r =
     let s = settingsIn l in
     let a = motionIn l in
@@ -184,7 +184,7 @@ pub stops : (l : List ℕ) (t : Tick) (m : List ℕ) → let a = motionIn l in
 stops l t m moved =
     let s = settingsIn l in
     let a = motionIn l in
-    let rising = rises (a .control) (t .control) 4 in
+    let rising = bitRises (a .control) (t .control) 4 in
     let v = viewWith (a .switches) (a .position) t false in
     let q = stoppedOf (a .phase) (s .method) in
     let phase : phaseBy s a t false ≡ q =
@@ -213,7 +213,7 @@ pub handed : (s : Settings) (t : Tick) (a : Motion) (torque speed : ℤ) {phase 
     {home position mode : ℤ} {status : ℕ} → phase ≡ a .phase → homed ≡ homedIn phase
     → followed ≡ targetOf (t .command) (matchedIn t (a .mode)) (a .state) homed → home ≡ a .home
     → position ≡ positionOf s home followed (t .position) → clamped ≡ clampedOf s followed → follows ≡ isFollowing followed
-    → limited ≡ limitedOf (t .switches) clamped → mode ≡ modeNumber (a .mode)
+    → limited ≡ limitActive (t .switches .positive) (t .switches .negative) clamped → mode ≡ modeNumber (a .mode)
     → status ≡ statuswordOf (a .state) (a .mode) (flagsIn phase follows limited)
     → _≡_ {A = Answer} (record { number = 0; torque = torque; speed = speed; position = position; status = status; mode = mode; alarm = a .alarm })
     (answerBy s t a torque speed)

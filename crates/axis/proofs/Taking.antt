@@ -16,14 +16,14 @@ use Rattle.states.specs.States.{liveOf}
 use Rattle.words.specs.Encode.{checksumOf}
 use Rattle.words.specs.Decode.{settingsOf}
 use Rattle.reader.specs.Pending.{Pending, Reading, Complete}
-use Rattle.reader.specs.Read.{dueKind, kept, refused, stored, complete, judged, closeVerdict, endVerdict, endOf, readOf}
+use Rattle.reader.specs.Read.{dueKind, kept, refused, stored, complete, judged, closeVerdict, endVerdict, endRead, readOf}
 use Rattle.reader.specs.Cases.{isEnd}
 use Rattle.rules.specs.Axis.{Axis, Worded}
 use Rattle.rules.specs.Word.{taken, wordOf}
 use Rattle.patterns.specs.Patterns.{wordAt}
 use Rattle.cells.specs.Lists.{cellsFrom, valuesFrom}
 use Rattle.cells.specs.Cells.{valueIn, pendingIn, motionIn, axisIn, MotionKept}
-use Rattle.cells.specs.Writes.{Pends, more, Emptied, InputsKept, valuesIn, Activated}
+use Rattle.cells.specs.Writes.{Pends, more, Emptied, InputsKept, valuesIn, TakenOver}
 use Rattle.cells.proofs.Laws.{cells-past}
 use Rattle.axis.specs.Calls.{Takes, WordCall, readIn, completedIn, Completes}
 
@@ -73,9 +73,9 @@ pub live-end : (l : List ℕ) → liveOf (motionIn l .state) ≡ true → Comple
 unfolding axisIn
 live-end l e = record { axis = rw e; verdict = rw e; inputs = record { before = refl; after = refl }; kept = λ n. refl }
 
-pub activating-end : (l m : List ℕ) → liveOf (motionIn l .state) ≡ false → Activated l m → Completes l m Accepted
+pub takeover-end : (l m : List ℕ) → liveOf (motionIn l .state) ≡ false → TakenOver l m → Completes l m Accepted
 unfolding axisIn
-activating-end l m e c = record { axis = rw e (c .axis); verdict = rw e; inputs = c .motion; kept = λ n. absurd (n refl) }
+takeover-end l m e c = record { axis = rw e (c .axis); verdict = rw e; inputs = c .motion; kept = λ n. absurd (n refl) }
 
 -- once all have come, the values are the words themselves
 values-come : (l : List ℕ) (k n : ℕ) → k + n ≤ pendingIn l .count → valuesFrom k n (valueIn l) ≡ cellsFrom (15 + k) n l
@@ -87,24 +87,24 @@ values-come l k (suc n) h =
     ap₂ (λ (x : ℕ) (t : List ℕ). x ∷ t) here later
 
 ended : (l : List ℕ) (sum : ℕ) (v : Verdict) → 14 ≤ pendingIn l .count → v ≡ closeVerdict (settingsOf (valuesIn l)) (checksumOf (valuesIn l)) sum
-    → endOf (pendingIn l) sum ≡ judged (settingsOf (valuesIn l)) v
-unfolding endOf endVerdict
+    → endRead (pendingIn l) sum ≡ judged (settingsOf (valuesIn l)) v
+unfolding endRead endVerdict
 ended l sum v h e = rw (values-come l 0 14 h, e)
 
 pub refused-end : (l m : List ℕ) (sum : ℕ) (v : Verdict) (r : Refusal) → 14 ≤ pendingIn l .count
     → v ≡ closeVerdict (settingsOf (valuesIn l)) (checksumOf (valuesIn l)) sum → v ≡ Refused r → Emptied l m
-    → Takes l true (readIn l (endOf (pendingIn l) sum)) m (Refused r)
+    → Takes l true (readIn l (endRead (pendingIn l) sum)) m (Refused r)
 refused-end l m sum v r h e q c =
-    let g : endOf (pendingIn l) sum ≡ refused r = ended l sum v h e ∙ ap (judged (settingsOf (valuesIn l))) q in
+    let g : endRead (pendingIn l) sum ≡ refused r = ended l sum v h e ∙ ap (judged (settingsOf (valuesIn l))) q in
     rw g (refused-word l m true r c)
 
 -- the words are emptied first, then the settings come into force or not
 pub complete-end : (l m n : List ℕ) (sum : ℕ) (w v : Verdict) → 14 ≤ pendingIn l .count
     → w ≡ closeVerdict (settingsOf (valuesIn l)) (checksumOf (valuesIn l)) sum → w ≡ Accepted → Emptied l m → Completes m n v
-    → Takes l true (readIn l (endOf (pendingIn l) sum)) n v
+    → Takes l true (readIn l (endRead (pendingIn l) sum)) n v
 complete-end l m n sum w v h e a c d =
     let s = settingsOf (valuesIn l) in
-    let g : endOf (pendingIn l) sum ≡ complete s = ended l sum w h e ∙ ap (judged s) a in
+    let g : endRead (pendingIn l) sum ≡ complete s = ended l sum w h e ∙ ap (judged s) a in
     let same : valuesIn m ≡ valuesIn l = ap valuesIn (c .words) ∙ cells-past l 14 0 15 14 (omega arith) in
     let x : completedIn m ≡ readIn l (complete s) = ap₂ (λ (b : Axis) (u : List ℕ). taken b (Complete (settingsOf u))) (c .pends .axis) same in
     let p = c .pends in

@@ -37,7 +37,7 @@ pub record Takes (l : List ℕ) (ends : Bool) (x : Worded) (m : List ℕ) (v : V
   pub verdict : v ≡ x .verdict
   -- of motion's words the phase alone may change
   pub inputs : InputsKept l m
-  -- and but for an end word that is accepted, which activates settings, no word of the settings in force or of motion changes
+  -- and but for an end word that is accepted, which takes settings over, no word of the settings in force or of motion changes
   pub kept : (v ≡ Accepted → ends ≡ true → ⊥) → SettingsKept l m × MotionKept l m
   -- a refused word writes the count of those pending, and nothing else
   pub refused : (r : Refusal) → v ≡ Refused r → m ≡ emptied l

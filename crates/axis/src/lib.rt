@@ -10,7 +10,7 @@ use words::KIND;
 ghost use mathlib.Core.Path.{_≡_};
 ghost use mathlib.Core.Bool.{true, false};
 ghost use Prim.Native.Nat.{_<_, _≤_};
-ghost use Rattle.reader.specs.Read.{startOf, fieldOf, endOf};
+ghost use Rattle.reader.specs.Read.{startRead, fieldRead, endRead};
 ghost use Rattle.cells.specs.Cells.{pendingIn};
 ghost use Rattle.axis.specs.Calls.{FreshCall, Takes, readIn, Completes, WordCall, TickCall};
 
@@ -23,7 +23,7 @@ pub fn fresh(axis: &mut Lent)
 
 // A start word begins afresh.
 fn start(axis: &mut Lent, layout: u32) -> Verdict
-    ensures { λ r. ⌜ Takes (now (axis .entry)) false (readIn (now (axis .entry)) (startOf layout)) (now (axis .exit)) r ⌝ }
+    ensures { λ r. ⌜ Takes (now (axis .entry)) false (readIn (now (axis .entry)) (startRead layout)) (now (axis .exit)) r ⌝ }
 {
     if kinds::field_ok(0, layout) {
         cells::begin(axis);
@@ -37,7 +37,7 @@ fn start(axis: &mut Lent, layout: u32) -> Verdict
 // Keeps one word's data, of the kind that is due.
 fn store(axis: &mut Lent, kind: u32, value: u32) -> Verdict
     requires { ⌜ (kind < 14) × (kind ≡ pendingIn (now axis) .count) ⌝ }
-    ensures { λ r. ⌜ Takes (now (axis .entry)) false (readIn (now (axis .entry)) (fieldOf (pendingIn (now (axis .entry))) kind value)) (now (axis .exit)) r ⌝ }
+    ensures { λ r. ⌜ Takes (now (axis .entry)) false (readIn (now (axis .entry)) (fieldRead (pendingIn (now (axis .entry))) kind value)) (now (axis .exit)) r ⌝ }
 {
     if kinds::field_ok(kind, value) {
         cells::append(axis, value);
@@ -56,7 +56,7 @@ fn complete(axis: &mut Lent) -> Verdict
     if states::is_live(state) {
         Verdict::Refused(Refusal::DriveActive)
     } else {
-        cells::activate(axis);
+        cells::take_over(axis);
         Verdict::Accepted
     }
 }
@@ -64,7 +64,7 @@ fn complete(axis: &mut Lent) -> Verdict
 // An end word closes what is pending.
 fn finish(axis: &mut Lent, sum: u32) -> Verdict
     requires { ⌜ 14 ≤ pendingIn (now axis) .count ⌝ }
-    ensures { λ r. ⌜ Takes (now (axis .entry)) true (readIn (now (axis .entry)) (endOf (pendingIn (now (axis .entry))) sum)) (now (axis .exit)) r ⌝ }
+    ensures { λ r. ⌜ Takes (now (axis .entry)) true (readIn (now (axis .entry)) (endRead (pendingIn (now (axis .entry))) sum)) (now (axis .exit)) r ⌝ }
 {
     let verdict = reader::close(cells::pending_settings(axis), cells::checksum(axis), sum);
     cells::empty(axis);

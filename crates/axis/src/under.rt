@@ -183,8 +183,7 @@ fn place_in(axis: &Lent, home: i32, followed: Followed, actual: i32) -> Place
 }
 
 // What the tick hands out, by the motion that it has left.
-fn answer(axis: &Lent, t: Tick, d: Drive, switches: u32, torque: i32, speed: i32) -> Answer
-    requires { ⌜ switches ≡ switchBits (t .switches) ⌝ }
+fn answer(axis: &Lent, t: Tick, d: Drive, torque: i32, speed: i32) -> Answer
     ensures { λ r. ⌜ r ≡ answerBy (settingsIn (now (axis .entry))) t (driven (motionIn (now (axis .entry))) (d .state) (d .mode) (d .alarm)) torque speed ⌝ }
 {
     let command = t.command;
@@ -194,7 +193,8 @@ fn answer(axis: &Lent, t: Tick, d: Drive, switches: u32, torque: i32, speed: i32
     let followed = ticks::command_target(command, mode, state, homing::is_homed(phase));
     let place = place_in(axis, cells::home(axis), followed, t.position);
     let following = answers::following(followed);
-    let limited = status::limited(switches, place.clamped);
+    let switches = t.switches;
+    let limited = status::limit_active(switches.positive, switches.negative, place.clamped);
     Answer {
         number: 0,
         torque,
@@ -224,5 +224,5 @@ pub fn tick(axis: &mut Lent, t: Tick) -> Answer
     cells::put_drive(axis, state, mode, d.alarm);
     let speed = homing_after(axis, t, bits, ticks::homing_on(wanted, mode, state));
     cells::put_inputs(axis, t.control, bits, t.position);
-    answer(axis, t, d, bits, torque, speed)
+    answer(axis, t, d, torque, speed)
 }

@@ -12,22 +12,22 @@ use Rattle.counts.specs.Wrap.{modulo, signed, wrapped}
 use Rattle.states.specs.declared.State.{State}
 use Rattle.states.specs.States.{stateNumber}
 use Rattle.modes.specs.declared.Mode.{Mode}
-use Rattle.modes.specs.Modes.{modePlace}
+use Rattle.modes.specs.Modes.{modeOrdinal}
 use Rattle.legs.specs.Events.{switchesIn}
 use Rattle.homing.specs.Phase.{phaseOf}
 use Rattle.ticks.specs.Motion.{driven, phased, homeAt, fed}
 use Rattle.words.specs.Encode.{total}
 use Rattle.words.specs.Decode.{settingsOf}
 use Rattle.reader.specs.Read.{started, kept}
-use Rattle.patterns.specs.Patterns.{wordAt, stateOf, modeOf}
+use Rattle.patterns.specs.Patterns.{wordAt, stateAt, modeAt}
 use Rattle.patterns.proofs.Back.{signed-back, state-back, mode-back}
 use Rattle.cells.specs.Lists.{cellsFrom}
 use Rattle.cells.specs.Cells.{activeIn, pendingIn, motionIn, axisIn, ZerosAreFresh}
-use Rattle.cells.specs.Writes.{Pends, emptied, Emptied, copied, Activated, Moved}
+use Rattle.cells.specs.Writes.{Pends, emptied, Emptied, copied, TakenOver, Moved}
 use Rattle.cells.proofs.Lists.{spelled}
 
 pub cleared : ZerosAreFresh
-unfolding axisIn activeIn stateOf modeOf modulo signed wrapped
+unfolding axisIn activeIn stateAt modeAt modulo signed wrapped
 cleared = refl
 
 pub unchanged : {l : List ℕ} → Pends l (pendingIn l) l
@@ -62,9 +62,9 @@ module _ (l : List ℕ) (h : length l ≡ 37) where
   stored-value (suc (suc (suc (suc (suc (suc (suc (suc (suc (suc (suc (suc (suc zero))))))))))))) x b e = rw (spelled 37 l h, e) (record { axis = refl; settings = refl; motion = refl })
   stored-value (suc (suc (suc (suc (suc (suc (suc (suc (suc (suc (suc (suc (suc (suc k)))))))))))))) x b e = absurd (omega arith)
 
-  pub activated : Activated l (set (set (copied 13 l) 0 1) 32 0)
+  pub taken-over : TakenOver l (set (set (copied 13 l) 0 1) 32 0)
   unfolding axisIn activeIn settingsOf
-  activated = rw (spelled 37 l h) (record { axis = refl; pending = refl; motion = record { before = refl; after = refl } })
+  taken-over = rw (spelled 37 l h) (record { axis = refl; pending = refl; motion = record { before = refl; after = refl } })
 
 -- a store leaves the words past it
 pub cells-past : (l : List ℕ) (i x k n : ℕ) → i < k → cellsFrom k n (set l i x) ≡ cellsFrom k n l
@@ -96,7 +96,7 @@ summed l k (suc n) = let i : k + suc n ≡ suc k + n = omega arith in rw i (let 
 -- the parts of motion: what is stored reads back
 module _ (l : List ℕ) (h : length l ≡ 37) where
   pub driven-words : (state : State) (mode : Mode) (alarm : ℕ)
-      → Moved l (driven (motionIn l) state mode alarm) (set (set (set l 29 (stateNumber state)) 30 (modePlace mode)) 31 alarm)
+      → Moved l (driven (motionIn l) state mode alarm) (set (set (set l 29 (stateNumber state)) 30 (modeOrdinal mode)) 31 alarm)
   unfolding axisIn activeIn
   driven-words state mode alarm = record { axis = rw (spelled 37 l h, state-back state, mode-back mode); kept = rw (spelled 37 l h) }
 

@@ -19,7 +19,7 @@ use Rattle.homing.specs.Phase.{phaseOf}
 use Rattle.ticks.specs.Motion.{Motion}
 use Rattle.rules.specs.Axis.{Active, Nothing, Set, Axis, freshAxis}
 use Rattle.legs.specs.Events.{switchesIn}
-use Rattle.patterns.specs.Patterns.{wordAt, stateOf, modeOf}
+use Rattle.patterns.specs.Patterns.{wordAt, stateAt, modeAt}
 use Rattle.cells.specs.Lists.{cellsFrom, valuesFrom}
 
 -- the settings that words 0 to 13 carry
@@ -39,8 +39,8 @@ pendingIn l = record { count = wordAt l 14; values = valuesFrom 0 14 (valueIn l)
 abbrev pub motionIn : List ℕ → Motion
 motionIn l =
     record {
-      state = stateOf (wordAt l 29);
-      mode = modeOf (wordAt l 30);
+      state = stateAt (wordAt l 29);
+      mode = modeAt (wordAt l 30);
       alarm = wordAt l 31;
       phase = phaseOf (wordAt l 32);
       home = wrapped (pos (wordAt l 33));

@@ -60,7 +60,7 @@ copied zero l = l
 copied (suc k) l = set (copied k l) (suc k) (wordAt l (16 + k))
 
 -- the settings of these values come into force
-pub record Activated (l m : List ℕ) : Type 0 where
+pub record TakenOver (l m : List ℕ) : Type 0 where
   pub axis : axisIn m ≡ record { active = Set (settingsOf (valuesIn l)); pending = pendingIn l; motion = idled (motionIn l) }
   pub pending : PendingKept l m
   pub motion : InputsKept l m

@@ -16,7 +16,7 @@ ghost use Rattle.patterns.specs.Patterns.{wordAt};
 ghost use Rattle.ticks.specs.Motion.{driven, phased, homeAt, fed};
 ghost use Rattle.cells.specs.Lists.{cellsFrom};
 ghost use Rattle.cells.specs.Cells.{settingsIn, pendingIn, motionIn};
-ghost use Rattle.cells.specs.Writes.{Cleared, Emptied, Begun, Appended, valuesIn, copied, Activated, Moved};
+ghost use Rattle.cells.specs.Writes.{Cleared, Emptied, Begun, Appended, valuesIn, copied, TakenOver, Moved};
 
 // The lent words: the settings in force, what is pending, motion. Words 0 to 13 are the data of the settings words that came into force;
 // the first, the start word's, is 0 where none did.
@@ -250,8 +250,8 @@ fn copy_values(axis: &mut Lent)
 }
 
 // The settings of the values that are pending come into force, and homing is idle (01: takeover).
-pub fn activate(axis: &mut Lent)
-    ensures { λ _. ⌜ Activated (now (axis .entry)) (now (axis .exit)) ⌝ }
+pub fn take_over(axis: &mut Lent)
+    ensures { λ _. ⌜ TakenOver (now (axis .entry)) (now (axis .exit)) ⌝ }
 {
     lent(*axis);
     copy_values(axis);
@@ -265,7 +265,7 @@ pub fn put_drive(axis: &mut Lent, state: State, mode: Mode, alarm: u32)
 {
     lent(*axis);
     axis[STATE] = states::state_number(state);
-    axis[MODE] = modes::place(mode);
+    axis[MODE] = modes::ordinal(mode);
     axis[ALARM] = alarm;
 }
 

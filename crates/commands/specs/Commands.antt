@@ -4,7 +4,7 @@ use Prim.Native.Nat.{ℕ, _+_, _^_}
 use mathlib.Core.Bool.{cond}
 use lib.Dec.{ltb}
 use lib.IntN.{ℤ, pos}
-use Rattle.hybrid.specs.Hybrid.{quotientOf, finite, wholeOf}
+use Rattle.hybrid.specs.Hybrid.{quotientOf, finite, wholePart}
 use Rattle.modes.specs.declared.Mode.{Mode}
 use Rattle.modes.specs.declared.Mode.the-variants as mode
 use Rattle.commands.specs.declared.Command.{Command}
@@ -39,7 +39,7 @@ demandOf Rest rated = Request (pos 0)
 -- a demand as a whole number
 abbrev pub wholeDemand : Demand → ℤ
 wholeDemand (Request request) = request
-wholeDemand (Quotient q) = wholeOf q
+wholeDemand (Quotient q) = wholePart q
 
 unfoldable pub withBit31 : ℕ → ℕ
 withBit31 alarm = cond (ltb alarm (2 ^ 31)) (alarm + 2 ^ 31) alarm

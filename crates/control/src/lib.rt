@@ -1,6 +1,6 @@
 // The control word (CiA 402): what it asks of the drive, and the rise of a bit.
 ghost use mathlib.Core.Path.{_≡_};
-ghost use Rattle.control.specs.Control.{controlCommandOf, rises};
+ghost use Rattle.control.specs.Control.{controlCommandOf, bitRises};
 
 // What a control word asks of the drive; nothing where its bit 7, fault reset, is set.
 pub enum ControlCommand {
@@ -39,7 +39,7 @@ pub fn control_command(control: u16) -> ControlCommand
 
 // Whether a control bit is set now and was not in the word before.
 pub fn rising(before: u16, control: u16, place: u32) -> bool
-    ensures { λ r. ⌜ r ≡ rises before control place ⌝ }
+    ensures { λ r. ⌜ r ≡ bitRises before control place ⌝ }
 {
     counts::bit(control, place) & !counts::bit(before, place)
 }

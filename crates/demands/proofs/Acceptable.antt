@@ -28,8 +28,8 @@ use Rattle.rules.specs.Tick.{tickUnder, tickOf}
 use Rattle.demands.specs.Events.{Event, word, tick}
 use Rattle.demands.specs.Replies.{axisOf}
 use Rattle.words.specs.Word.{sameWords}
-use Rattle.demands.specs.Activation.{lastFifteen, carried, completedBy}
-use Rattle.demands.specs.Known.{Known, atFirst, activates, afterWord, afterTick, next, knownFrom}
+use Rattle.demands.specs.Takeover.{lastFifteen, carried, completedBy}
+use Rattle.demands.specs.Known.{Known, atFirst, takesOver, afterWord, afterTick, next, knownFrom}
 use Rattle.demands.specs.Acceptable.{InForceAcceptable, Plain, PlainAnswers, PlainData}
 use Rattle.demands.proofs.Kept.{matches}
 
@@ -47,15 +47,15 @@ completed-good ws = go (sameWords (lastFifteen ws) (wordsOf (carried ws))) (acce
     go true false e = tt
     go false c e = tt
 
-activates-good : (k : Known) (ws : List ℕ) → Good (activates k ws)
-activates-good k ws = go (liveOf (k .state))
+taken-good : (k : Known) (ws : List ℕ) → Good (takesOver k ws)
+taken-good k ws = go (liveOf (k .state))
   where
     go : (live : Bool) → Good (cond live Nothing (completedBy ws))
     go true = tt
     go false = completed-good ws
 
 next-good : (k : Known) (e : Event) → Good (k .settings) → Good (next k e .settings)
-next-good k (word w) g = go (activates k ws) (activates-good k ws)
+next-good k (word w) g = go (takesOver k ws) (taken-good k ws)
   where
     ws : List ℕ
     ws = k .words ++ w ∷ []

@@ -11,10 +11,10 @@ use Rattle.roundtrip.specs.Stream.{EndsIn}
 use Rattle.ticks.specs.declared.Tick.{Tick}
 use Rattle.rules.specs.Axis.{Active, Nothing, Set}
 use Rattle.demands.specs.Events.{Event, word, tick}
-use Rattle.demands.specs.Activation.{completedBy}
-use Rattle.demands.specs.Known.{Known, atFirst, activates, afterWord, afterTick, next, knownFrom}
+use Rattle.demands.specs.Takeover.{completedBy}
+use Rattle.demands.specs.Known.{Known, atFirst, takesOver, afterWord, afterTick, next, knownFrom}
 use Rattle.demands.specs.Whole.{wordsIn, Came, CameByTheirWords}
-use Rattle.demands.proofs.Activation.{sound}
+use Rattle.demands.proofs.Takeover.{sound}
 use Rattle.demands.proofs.Kept.{matches}
 
 words-append : (es fs : List Event) → wordsIn (es ++ fs) ≡ wordsIn es ++ wordsIn fs
@@ -40,7 +40,7 @@ later c fs =
 
 module _ (es : List Event) (k : Known) (h : Told es k) where
   after-word : (w : ℕ) → Told (es ++ word w ∷ []) (next k (word w))
-  after-word w = go (activates k ws) refl
+  after-word w = go (takesOver k ws) refl
     where
       ws : List ℕ
       ws = k .words ++ w ∷ []
@@ -52,7 +52,7 @@ module _ (es : List Event) (k : Known) (h : Told es k) where
       completes s true e = let z : _≡_ {A = ℕ} 0 1 = cc in absurd (omega arith)
       completes s false e = subst (λ (us : List ℕ). EndsIn s (us ++ w ∷ [])) (h .words) (sound s ws e)
 
-      go : (x : Active) → activates k ws ≡ x → Told (es ++ word w ∷ []) (afterWord x k ws)
+      go : (x : Active) → takesOver k ws ≡ x → Told (es ++ word w ∷ []) (afterWord x k ws)
       go Nothing e = record { words = grown; came = λ s q. later (h .came s q) (word w ∷ []) }
       go (Set r) e =
           record {

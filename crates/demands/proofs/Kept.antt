@@ -13,15 +13,15 @@ use Rattle.roundtrip.proofs.Completed.{from-append}
 use Rattle.rules.specs.Axis.{Active, Nothing, Set, Axis, freshAxis}
 use Rattle.ticks.specs.declared.Tick.{Tick}
 use Rattle.demands.specs.Events.{Event, word, tick}
-use Rattle.ticks.specs.Rules.{modeAfter, stateAfter, startsIn, viewOf}
+use Rattle.ticks.specs.Rules.{modeAfter, stateAfter, startsIn, viewIn}
 use Rattle.rules.specs.Word.{withPending, taken, wordOf}
 use Rattle.ticks.specs.After.{newMode, newState, newPhase}
 use Rattle.answers.specs.Answer.{answeredIn}
 use Rattle.rules.specs.Tick.{gone, tickUnder, tickOf}
 use Rattle.demands.specs.Replies.{leftBy, axisFrom, axisOf}
-use Rattle.demands.specs.Activation.{completedBy}
-use Rattle.demands.specs.Known.{Known, atFirst, activates, afterWord, sinceAfter, afterTick, next, knownFrom, known}
-use Rattle.demands.proofs.Activation.{completedIn, activation}
+use Rattle.demands.specs.Takeover.{completedBy}
+use Rattle.demands.specs.Known.{Known, atFirst, takesOver, afterWord, sinceAfter, afterTick, next, knownFrom, known}
+use Rattle.demands.proofs.Takeover.{completedIn, takeover}
 use Rattle.demands.proofs.Matches.{phaseFor, Matches, phase-step}
 
 -- ---- a word
@@ -68,9 +68,9 @@ module _ (a : Axis) (k : Known) (m : Matches a k) where
       let ws = k .words in
       let p = pendingAfter ws in
       let q : readOf p w .pending ≡ pendingAfter (ws ++ w ∷ []) = sym (from-append emptyPending ws (w ∷ [])) in
-      let read : completedBy (ws ++ w ∷ []) ≡ completedIn (readOf p w .outcome) = activation ws w in
+      let read : completedBy (ws ++ w ∷ []) ≡ completedIn (readOf p w .outcome) = takeover ws w in
       let live : liveOf (a .motion .state) ≡ liveOf (k .state) = ap liveOf (m .state) in
-      let acts : activates k (ws ++ w ∷ []) ≡ cond (liveOf (k .state)) Nothing (completedIn (readOf p w .outcome)) =
+      let acts : takesOver k (ws ++ w ∷ []) ≡ cond (liveOf (k .state)) Nothing (completedIn (readOf p w .outcome)) =
       ap (λ (x : Active). cond (liveOf (k .state)) Nothing x) read in
       subst (λ (x : Pending). Matches (taken (withPending a (readOf x w .pending)) (readOf x w .outcome) .axis) (next k (word w))) (sym (m .pending))
       (subst (λ (x : Active). Matches (taken (withPending a (readOf p w .pending)) (readOf p w .outcome) .axis) (afterWord x k (ws ++ w ∷ []))) (sym acts)
@@ -87,7 +87,7 @@ module _ (a : Axis) (k : Known) (m : Matches a k) where
       let state : newState s (a .motion) t ≡ after = cc in
       let phase : a .motion .phase ≡ phaseFor (Set s) (k .since) = m .phase ∙ ap (λ (x : Active). phaseFor x (k .since)) e in
       let starts : startsIn (a .motion .control) t (newMode (a .motion) t) (newState s (a .motion) t) ≡ startsIn (k .control) t shown after = cc in
-      let view : viewOf (a .motion .switches) (a .motion .position) t (newMode (a .motion) t) (newState s (a .motion) t) ≡ viewOf (k .switches) (k .position) t shown after = cc in
+      let view : viewIn (a .motion .switches) (a .motion .position) t (newMode (a .motion) t) (newState s (a .motion) t) ≡ viewIn (k .switches) (k .position) t shown after = cc in
       record {
         active = m .active;
         pending = m .pending;
@@ -98,7 +98,7 @@ module _ (a : Axis) (k : Known) (m : Matches a k) where
         position = refl;
         phase =
             rw (starts, view, phase)
-            (phase-step s (startsIn (k .control) t shown after) (t .switches .home) (viewOf (k .switches) (k .position) t shown after) (k .since)
+            (phase-step s (startsIn (k .control) t shown after) (t .switches .home) (viewIn (k .switches) (k .position) t shown after) (k .since)
             ∙ ap (λ (x : Active). phaseFor x (sinceAfter k t shown after)) (sym e));
       }
 

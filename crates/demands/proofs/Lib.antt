@@ -1,4 +1,4 @@
-pub mod Activation
+pub mod Takeover
 pub mod Matches
 pub mod Kept
 pub mod Promised

@@ -104,7 +104,7 @@ demand3 es =
           record {
             answer = tickOf (axisOf before) t .answer;
             later = repliesFrom (leftBy (axisOf before) (tick t)) after;
-            place = ap replies e ∙ replies-append freshAxis before (tick t ∷ after);
+            reply = ap replies e ∙ replies-append freshAxis before (tick t ∷ after);
             promise = promise (axisOf before) (known before) (matches before) t;
           };
     }

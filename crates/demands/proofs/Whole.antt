@@ -9,7 +9,7 @@ use Rattle.settings.specs.declared.Settings.{Settings}
 use Rattle.settings.specs.declared.Verdict.the-variants as verdict
 use Rattle.settings.specs.Refusal.{verdictNumber}
 use Rattle.checks.proofs.Numbers.{passes}
-use Rattle.words.specs.Word.{kindOf, wordOf as wordBy}
+use Rattle.words.specs.Word.{kindOf, packed as wordBy}
 use Rattle.words.specs.Encode.{valuesOf, checksumOf, wordsFrom, wordsOf}
 use Rattle.words.proofs.Widths.{Below, values-below}
 use Rattle.reader.specs.Pending.{Pending, Reading, Outcome, Stored, Complete}
@@ -26,7 +26,7 @@ use Rattle.rules.specs.Tick.{tickOf}
 use Rattle.rules.proofs.Refused.{left-empty, refused-word, pending-unseen}
 use Rattle.demands.specs.Events.{Event, word, tick}
 use Rattle.demands.specs.Replies.{leftBy, axisFrom, repliesFrom}
-use Rattle.demands.specs.Whole.{PendingUnseen, RefusedUnseen, wordsIn, AllAccepted, activated, RoundTrip}
+use Rattle.demands.specs.Whole.{PendingUnseen, RefusedUnseen, wordsIn, AllAccepted, afterTakeover, RoundTrip}
 
 -- ---- no tick sees what is pending
 
@@ -110,9 +110,9 @@ accepted-append a [] w h e = (e, tt)
 accepted-append a (word v ∷ es) w h e = (h .0, accepted-append (wordOf a v .axis) es w (h .1) e)
 accepted-append a (tick t ∷ es) w h e = accepted-append (tickOf a t .axis) es w h e
 
-pub activates : RoundTrip
+pub round-trip : RoundTrip
 unfolding wordsOf wordOf valuesOf
-activates a s es w ok e idle =
+round-trip a s es w ok e idle =
     let front = wordsFrom 0 (valuesOf s) in
     let r : ReadInto (a .pending) (wordsOf s) s = there s ok (a .pending) in
     let i = snoc-inj (wordsIn es) front w (wordBy 15 (checksumOf (valuesOf s))) e in
@@ -121,7 +121,7 @@ activates a s es w ok e idle =
     let b = axisFrom a es in
     let o : readOf (b .pending) w .outcome ≡ Complete s = subst (λ (p : Pending). readOf p w .outcome ≡ Complete s) (sym (f .0)) (last-completes r (wordsIn es) w (sym e)) in
     let p : readOf (b .pending) w .pending ≡ emptyPending = left-empty (b .pending) w (λ q. unstored (sym o ∙ q)) in
-    let t : wordOf b w ≡ record { axis = activated s (withPending b emptyPending); verdict = verdict.Accepted } = rw (o, p, idle) in
+    let t : wordOf b w ≡ record { axis = afterTakeover s (withPending b emptyPending); verdict = verdict.Accepted } = rw (o, p, idle) in
     record {
       accepted = accepted-append a es w (f .1) (ap (λ (x : Worded). verdictNumber (x .verdict)) t);
       left = axis-append a es (word w ∷ []) ∙ ap (λ (x : Worded). x .axis) t;

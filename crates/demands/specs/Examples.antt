@@ -22,11 +22,11 @@ use Rattle.words.specs.Word.{sameWords}
 use Rattle.words.specs.Encode.{valuesOf, total, checksumOf, wordsFrom, wordsOf}
 use Rattle.words.specs.Decode.{settingsOf}
 use Rattle.kinds.specs.Fields.{fieldOk}
-use Rattle.reader.specs.Read.{startOf, fieldOf, endVerdict, endOf, readOf}
+use Rattle.reader.specs.Read.{startRead, fieldRead, endVerdict, endRead, readOf}
 use Rattle.roundtrip.specs.Examples.{words-S}
 use Rattle.control.specs.Control.{controlCommandOf}
-use Rattle.drive.specs.Transitions.{nextOf}
-use Rattle.hybrid.specs.Hybrid.{quotientOf, sizeOf, negative, wholeOf}
+use Rattle.drive.specs.Transitions.{nextState}
+use Rattle.hybrid.specs.Hybrid.{quotientOf, sizeOf, negative, wholePart}
 use Rattle.commands.specs.declared.Command.{Command}
 use Rattle.commands.specs.declared.Command.the-variants.{Hybrid, Homing, Position, Torque, Rest}
 use Rattle.legs.specs.declared.events.Switches.{Switches}
@@ -38,9 +38,9 @@ use Rattle.torque.specs.declared.LimitSet.the-variants.{Set1}
 use Rattle.torque.specs.Limits.{capOf}
 use Rattle.torque.specs.Torque.{torqueOf}
 use Rattle.speed.specs.Speed.{signedOf}
-use Rattle.position.specs.Position.{placeOf}
+use Rattle.position.specs.Position.{countOf}
 use Rattle.status.specs.Statusword.{statuswordOf}
-use Rattle.demands.specs.Activation.{completedBy}
+use Rattle.demands.specs.Takeover.{completedBy}
 use Rattle.rules.specs.Axis.{Active, Nothing, Set}
 use Rattle.demands.specs.Events.{Event, word, tick}
 use Rattle.demands.specs.Known.{Since, never, known}
@@ -246,8 +246,8 @@ abbrev started : Since → Bool
 started never = false
 started (begun home views) = true
 
--- closed lists at which a wrong reading differs: the latest activation counts; bit 4 set all along is no start, its rise is one; an
--- activation forgets the start
+-- closed lists at which a wrong reading differs: the latest takeover counts; bit 4 set all along is no start, its rise is one; a
+-- takeover forgets the start
 unfoldable pub reading-table : List Bool
 reading-table =
     eqb (methodIn (known (S ++ map word (S-with 35 2000)) .settings)) 35
@@ -261,13 +261,13 @@ all [] = true
 all (b ∷ bs) = b && all bs
 
 holds : all table ≡ true
-unfolding table words-S modulo signed wrapped floorDiv clamped methodOk gearedOf inReach limitsVerdict total checksumOf settingsOf fieldOk startOf fieldOf endVerdict endOf readOf controlCommandOf nextOf quotientOf sizeOf negative wholeOf ofBits sub mul div ofInt eventCounts limitCounts rowOf legAt places.entered places.runningOf places.startOf signedOf capOf torqueOf placeOf statuswordOf answerIn answeredIn wordOf newPhase tickOf
+unfolding table words-S modulo signed wrapped floorDiv clamped methodOk gearedOf inReach limitsVerdict total checksumOf settingsOf fieldOk startRead fieldRead endVerdict endRead readOf controlCommandOf nextState quotientOf sizeOf negative wholePart ofBits sub mul div ofInt eventCounts limitCounts rowOf legAt places.entered places.runningOf places.startOf signedOf capOf torqueOf countOf statuswordOf answerIn answeredIn wordOf newPhase tickOf
 holds = refl
 
 homed-holds : all homed-table ≡ true
-unfolding homed-table words-S modulo signed wrapped floorDiv methodOk gearedOf inReach limitsVerdict total checksumOf settingsOf fieldOk startOf fieldOf endVerdict endOf readOf controlCommandOf nextOf eventCounts limitCounts rowOf legAt places.entered places.limitAt places.runningOf places.startOf statuswordOf answerIn answeredIn wordOf newPhase tickOf
+unfolding homed-table words-S modulo signed wrapped floorDiv methodOk gearedOf inReach limitsVerdict total checksumOf settingsOf fieldOk startRead fieldRead endVerdict endRead readOf controlCommandOf nextState eventCounts limitCounts rowOf legAt places.entered places.limitAt places.runningOf places.startOf statuswordOf answerIn answeredIn wordOf newPhase tickOf
 homed-holds = refl
 
 readings-hold : all reading-table ≡ true
-unfolding reading-table words-S modulo signed wrapped floorDiv methodOk inRange gearedOf inReach limitsVerdict acceptable valuesOf total checksumOf wordsFrom wordsOf settingsOf controlCommandOf nextOf completedBy
+unfolding reading-table words-S modulo signed wrapped floorDiv methodOk inRange gearedOf inReach limitsVerdict acceptable valuesOf total checksumOf wordsFrom wordsOf settingsOf controlCommandOf nextState completedBy
 readings-hold = refl

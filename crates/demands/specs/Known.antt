@@ -17,11 +17,11 @@ use Rattle.legs.specs.Routes.{planOf}
 use Rattle.homing.specs.Complete.{CompletesPlan}
 use Rattle.rules.specs.Axis.{Active, Nothing, Set}
 use Rattle.ticks.specs.declared.Tick.{Tick}
-use Rattle.ticks.specs.Rules.{modeAfter, stateAfter, startsIn, viewOf}
-use Rattle.demands.specs.Activation.{completedBy}
+use Rattle.ticks.specs.Rules.{modeAfter, stateAfter, startsIn, viewIn}
+use Rattle.demands.specs.Takeover.{completedBy}
 use Rattle.demands.specs.Events.{Event, word, tick}
 
--- the latest homing start since the last activation: HOM in its tick, and what homing sees of each tick after it
+-- the latest homing start since the last takeover: HOM in its tick, and what homing sees of each tick after it
 pub data Since : Type 0 where
   never : Since
   start : Bool → List View → Since
@@ -29,7 +29,7 @@ pub data Since : Type 0 where
 pub record Known : Type 0 where
   -- the words so far, ticks aside
   pub words : List ℕ
-  -- the settings in force: those of the latest activation
+  -- the settings in force: those of the latest takeover
   pub settings : Active
   -- the drive's state and the shown mode, by their own rules
   pub state : State
@@ -54,11 +54,11 @@ atFirst =
       since = never;
     }
 
--- the settings that one word more activates, or nothing: none while the drive is live
-abbrev pub activates : Known → List ℕ → Active
-activates k ws = cond (liveOf (k .state)) Nothing (completedBy ws)
+-- the settings that one word more takes over, or nothing: none while the drive is live
+abbrev pub takesOver : Known → List ℕ → Active
+takesOver k ws = cond (liveOf (k .state)) Nothing (completedBy ws)
 
--- an activation replaces the settings, and ends homed: no earlier start counts
+-- a takeover replaces the settings, and ends homed: no earlier start counts
 abbrev pub afterWord : Active → Known → List ℕ → Known
 afterWord Nothing k ws =
     record {
@@ -90,7 +90,7 @@ seen (start home views) v = start home (views ++ v ∷ [])
 
 abbrev pub sinceAfter : Known → Tick → Mode → State → Since
 sinceAfter k t mode state =
-    cond (startsIn (k .control) t mode state) (start (t .switches .home) []) (seen (k .since) (viewOf (k .switches) (k .position) t mode state))
+    cond (startsIn (k .control) t mode state) (start (t .switches .home) []) (seen (k .since) (viewIn (k .switches) (k .position) t mode state))
 
 -- with no settings in force a tick is refused, and changes nothing
 abbrev pub afterTick : Active → Known → Tick → Known
@@ -108,7 +108,7 @@ afterTick (Set s) k t =
     }
 
 abbrev pub next : Known → Event → Known
-next k (word w) = afterWord (activates k (k .words ++ w ∷ [])) k (k .words ++ w ∷ [])
+next k (word w) = afterWord (takesOver k (k .words ++ w ∷ [])) k (k .words ++ w ∷ [])
 next k (tick t) = afterTick (k .settings) k t
 
 abbrev pub knownFrom : Known → List Event → Known

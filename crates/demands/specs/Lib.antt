@@ -1,6 +1,6 @@
 pub mod Events
 pub mod Replies
-pub mod Activation
+pub mod Takeover
 pub mod Known
 pub mod Demand
 pub mod Acceptable

@@ -1,4 +1,4 @@
--- Demands 1 and 2 over lists of events: no tick after a refused word tells that it came; the words of acceptable settings activate them,
+-- Demands 1 and 2 over lists of events: no tick after a refused word tells that it came; the words of acceptable settings have them taken over,
 -- whatever ticks fall between, and no other words do.
 -- Assumes nothing.
 use Prim.Native.Nat.{ℕ}
@@ -43,25 +43,25 @@ AllAccepted (said v ∷ rs) = (verdictNumber v ≡ 0) × AllAccepted rs
 AllAccepted (answered a ∷ rs) = AllAccepted rs
 
 -- "all its fields come into force together, homed and homing error are cleared, homing is idle"
-abbrev pub activated : Settings → Axis → Axis
-activated s a =
+abbrev pub afterTakeover : Settings → Axis → Axis
+afterTakeover s a =
     record {
       active = Set s;
       pending = a .pending;
       motion = idled (a .motion);
     }
 
--- all words are accepted, and the last, w, changes what an activation changes, and that alone
-pub record Activates (a : Axis) (s : Settings) (es : List Event) (w : ℕ) : Type 0 where
+-- all words are accepted, and the last, w, changes what a takeover changes, and that alone
+pub record TakesOver (a : Axis) (s : Settings) (es : List Event) (w : ℕ) : Type 0 where
   pub accepted : AllAccepted (repliesFrom a (es ++ word w ∷ []))
-  pub left : axisFrom a (es ++ word w ∷ []) ≡ activated s (withPending (axisFrom a es) emptyPending)
+  pub left : axisFrom a (es ++ word w ∷ []) ≡ afterTakeover s (withPending (axisFrom a es) emptyPending)
 
 -- "reading it with the drive not live yields that sheet": for any axis and any events whose words, ticks aside, are those of acceptable
 -- settings, the last of them w, where the drive is not live when w comes
 abbrev pub RoundTrip : Type 0
 RoundTrip =
     (a : Axis) (s : Settings) (es : List Event) (w : ℕ) → acceptable s ≡ true → wordsIn es ++ w ∷ [] ≡ wordsOf s
-    → liveOf (axisFrom a es .motion .state) ≡ false → Activates a s es w
+    → liveOf (axisFrom a es .motion .state) ≡ false → TakesOver a s es w
 
 -- the word that brought settings into force, and what came before it and after: the words up to it end in the fifteen words of the settings,
 -- ticks aside, and the settings are acceptable

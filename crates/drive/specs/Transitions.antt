@@ -9,7 +9,7 @@ use Rattle.states.specs.declared.State.the-variants.{NotReady, SwitchOnDisabled
 use Rattle.control.specs.declared.ControlCommand.{ControlCommand}
 use Rattle.control.specs.declared.ControlCommand.the-variants.{Nothing, DisableVoltage, QuickStop, Shutdown, SwitchOn, EnableOperation}
 use Rattle.states.specs.States.{is}
-use Rattle.control.specs.Control.{controlCommandOf, rises}
+use Rattle.control.specs.Control.{controlCommandOf, bitRises}
 
 -- commands are told apart by number
 abbrev pub commandNumber : ControlCommand → ℕ
@@ -75,7 +75,7 @@ quietOf FaultReaction c still option = FaultReaction
 quietOf Fault c still option = Fault
 
 -- "An alarm moves every state but the two fault states to Fault reaction. Fault reaction goes to Fault. Fault goes to Switch on disabled
--- when control bit 7 rises and no alarm is present."
+-- when control bit 7 bitRises and no alarm is present."
 abbrev pub settled : State → Bool → Bool → State → State
 settled FaultReaction alarm reset quiet = Fault
 settled Fault alarm reset quiet = cond (reset && not alarm) SwitchOnDisabled Fault
@@ -88,6 +88,6 @@ settled QuickStopActive alarm reset quiet = cond alarm FaultReaction quiet
 
 -- the state after a tick: control word, the word before it, standstill, quick stop option, and the alarm word with what the command adds to
 -- it. An option other than 2 and 6, which no acceptable settings have, stays in Quick stop active.
-unfoldable pub nextOf : State → ℕ → ℕ → Bool → ℕ → ℕ → State
-nextOf s control before still option alarm =
-    settled s (not (eqb alarm 0)) (rises before control 7) (quietOf s (controlCommandOf control) still option)
+unfoldable pub nextState : State → ℕ → ℕ → Bool → ℕ → ℕ → State
+nextState s control before still option alarm =
+    settled s (not (eqb alarm 0)) (bitRises before control 7) (quietOf s (controlCommandOf control) still option)

@@ -3,7 +3,7 @@ use control::ControlCommand;
 use states::State;
 ghost use mathlib.Core.Path.{_≡_};
 ghost use mathlib.Core.Bool.{cond};
-ghost use Rattle.drive.specs.Transitions.{asks, fromState, bullets, standstillOf, quickStopOf, quietOf, nextOf};
+ghost use Rattle.drive.specs.Transitions.{asks, fromState, bullets, standstillOf, quickStopOf, quietOf, nextState};
 ghost use Rattle.control.specs.Control.{controlCommandOf};
 
 fn from_disabled(command: ControlCommand) -> State
@@ -108,7 +108,7 @@ fn calm(state: State, control: u16, still: bool, option: u32) -> State
 // The state after a tick: control is its control word, before the remembered one; alarm has what the command adds to it.
 // An alarm goes first, but not in the fault states; Fault is left by a rise of bit 7 without alarm.
 pub fn next(state: State, control: u16, before: u16, still: bool, option: u32, alarm: u32) -> State
-    ensures { λ r. ⌜ r ≡ nextOf state control before still option alarm ⌝ }
+    ensures { λ r. ⌜ r ≡ nextState state control before still option alarm ⌝ }
 {
     let clear = alarm == 0;
     match state {

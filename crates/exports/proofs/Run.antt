@@ -12,8 +12,8 @@ use Rattle.exports.specs.Run.{Run, none, call-word, call-tick, shown, Al
 
 replied-from : {l m : List ℕ} {es : List Event} {out : List (List ℕ)} → Run l es out m → out ≡ map shown (repliesFrom (axisIn l) es)
 replied-from none = refl
-replied-from (call-word c r) = rw (c .said, c .call .verdict, replied-from r, c .call .axis)
-replied-from (call-tick c r) = rw (c .said, c .words, c .call .answer, replied-from r, c .call .axis)
+replied-from (call-word c r) = rw (c .numbered, c .call .verdict, replied-from r, c .call .axis)
+replied-from (call-tick c r) = rw (c .numbered, c .words, c .call .answer, replied-from r, c .call .axis)
 
 left-from : {l m : List ℕ} {es : List Event} {out : List (List ℕ)} → Run l es out m → axisIn m ≡ axisFrom (axisIn l) es
 left-from none = refl

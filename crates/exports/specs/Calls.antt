@@ -18,7 +18,7 @@ FreshCall m = axis.FreshCall m
 pub record WordCall (l : List ℕ) (w : ℕ) (m : List ℕ) (number : ℕ) : Type 0 where
   pub verdict : Verdict
   pub call : axis.WordCall l w m verdict
-  pub said : number ≡ verdictNumber verdict
+  pub numbered : number ≡ verdictNumber verdict
 
 -- `axis_tick`: what the axis's own call promises of the tick in the event's words and floats, and the answer as words, the first of which is
 -- returned too
@@ -26,4 +26,4 @@ pub record TickCall (l e : List ℕ) (f : List Float) (m out : List ℕ) (number
   pub answer : Answer
   pub call : axis.TickCall l (tickIn e f) m answer
   pub words : out ≡ answerWords answer
-  pub said : number ≡ answer .number
+  pub numbered : number ≡ answer .number

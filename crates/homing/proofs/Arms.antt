@@ -12,7 +12,7 @@ use Rattle.legs.specs.Events.{View, eventCounts, limitCounts, foundCounts, foun
 use Rattle.legs.specs.Routes.{Row, rowOf}
 use Rattle.legs.specs.Places.{homePlace, legAt}
 use Rattle.homing.specs.Phase.{Phase, Idle, Running, Failed}
-use Rattle.homing.specs.Places.{entered, limitAt, tickIn, runningOf, startIn, startOf}
+use Rattle.homing.specs.Places.{entered, limitAt, legTick, runningOf, startIn, startOf}
 use Rattle.legs.proofs.Rows.{between, known, isRow, turn-rule, known-rule, unknown}
 
 module _ (m p : ℕ) where
@@ -39,7 +39,7 @@ pub run-tests : (m p : ℕ) (v : View)
 unfolding runningOf
 run-tests m p v = go (legAt m p) (v .kept) refl
   where
-    go : (f : Found) (k : Bool) → v .kept ≡ k → tickIn m p v f ≡ tested (isLeg f) (v .kept) (foundCounts f v) (foundLimitCounts f v) m p
+    go : (f : Found) (k : Bool) → v .kept ≡ k → legTick m p v f ≡ tested (isLeg f) (v .kept) (foundCounts f v) (foundLimitCounts f v) m p
     go found.Nothing k e = refl
     go (found.Leg l) true e = cc
     go (found.Leg l) false e = cc

@@ -8,14 +8,14 @@ use Rattle.legs.specs.Found.{Found}
 use Rattle.legs.specs.Found as found
 use Rattle.legs.specs.Places.{legAt}
 use Rattle.homing.specs.Phase.{Phase, Idle, Running, Homed, Failed}
-use Rattle.homing.specs.Places.{tickIn, runningOf, stepOf, stoppedAt, stoppedOf}
+use Rattle.homing.specs.Places.{legTick, runningOf, stepOf, stoppedAt, stoppedOf}
 
 pub stopped : (p : Phase) (method : ℕ) (v : View) → v .kept ≡ false → stepOf p method v ≡ stoppedOf p method
 unfolding runningOf
 stopped Idle method v k = refl
 stopped (Running place) method v k = go (legAt method place)
   where
-    go : (f : Found) → tickIn method place v f ≡ stoppedAt f
+    go : (f : Found) → legTick method place v f ≡ stoppedAt f
     go found.Nothing = refl
     go (found.Leg l) = cc
 stopped Homed method v k = refl

@@ -26,13 +26,13 @@ unfoldable pub limitAt : ℕ → ℕ → Phase
 limitAt method place = cond (hasTurn (rowOf method) && eqb place 0) (entered method turnPlace) Failed
 
 -- a tick in the leg at a place. A place with no leg, where no start and no step leads, fails.
-abbrev pub tickIn : ℕ → ℕ → View → Found → Phase
-tickIn method place v found.Nothing = Failed
-tickIn method place v (found.Leg l) =
+abbrev pub legTick : ℕ → ℕ → View → Found → Phase
+legTick method place v found.Nothing = Failed
+legTick method place v (found.Leg l) =
     cond (v .kept) (cond (eventCounts l v) (entered method (place + 1)) (cond (limitCounts l v) (limitAt method place) (Running place))) Idle
 
 unfoldable pub runningOf : ℕ → ℕ → View → Phase
-runningOf method place v = tickIn method place v (legAt method place)
+runningOf method place v = legTick method place v (legAt method place)
 
 -- the start tick: the first place of a or c. A number that is no method makes homing idle.
 abbrev pub startIn : ℕ → Bool → Option Row → Phase

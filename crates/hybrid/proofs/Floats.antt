@@ -8,7 +8,7 @@ use lib.IntN.{pos}
 use lib.Ieee.{Float, nan, inf, fin, binary32, ofBits, ofInt, neg, lt, isNan}
 use lib.Ieee.Back.{round-whole}
 use lib.Ieee.Exact.{HasValue}
-use Rattle.hybrid.specs.Hybrid.{floatOf, finite, sizeOf, negative, wholeOf}
+use Rattle.hybrid.specs.Hybrid.{floatOf, finite, sizeOf, negative, wholePart}
 
 -- every number up to 2 ^ 24 is a float of its own: the divisor is the rated torque itself, for all that settings may hold
 pub float-exact : (n : ℕ) → n ≤ 2 ^ 24 → HasValue (floatOf n) false n 1
@@ -40,8 +40,8 @@ no-nan nan t = absurd (subst T (sym t) tt)
 no-nan (inf s) t = tt
 no-nan (fin s m e) t = tt
 
-pub not-finite : (q : Float) → finite q ≡ false → wholeOf q ≡ pos 0
-unfolding wholeOf sizeOf negative
+pub not-finite : (q : Float) → finite q ≡ false → wholePart q ≡ pos 0
+unfolding wholePart sizeOf negative
 not-finite nan t = refl
 not-finite (inf true) t = refl
 not-finite (inf false) t = refl

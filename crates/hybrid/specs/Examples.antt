@@ -9,7 +9,7 @@ use lib.IntN.{ℤ, pos, negsuc}
 use lib.Ieee.{nan, inf, fin, binary32, ofBits, sub, add, mul, div, ofInt}
 use Rattle.counts.specs.Clamp.{clamped}
 use Rattle.hybrid.specs.declared.Hybrid.{Hybrid}
-use Rattle.hybrid.specs.Hybrid.{quotientOf, finite, sizeOf, negative, wholeOf}
+use Rattle.hybrid.specs.Hybrid.{quotientOf, finite, sizeOf, negative, wholePart}
 
 -- a command by the bit patterns of KP, KD, pd, vd, T, p, v
 abbrev command : ℕ → ℕ → ℕ → ℕ → ℕ → ℕ → ℕ → Hybrid
@@ -32,7 +32,7 @@ abbrev torque : ℕ → Hybrid
 torque e = command 0 0 0 0 e 0 0
 
 abbrev demanded : Hybrid → ℕ → ℤ
-demanded h rated = wholeOf (quotientOf h rated)
+demanded h rated = wholePart (quotientOf h rated)
 
 abbrev same : ℤ → ℤ → Bool
 same (pos a) (pos b) = eqb a b
@@ -58,12 +58,12 @@ table =
     ∷ not (finite (quotientOf (spring 0x7f80_0000 0) 2000))
     -- the largest float is finite; its whole part is 2^104 times 2^24 − 1
     ∷ finite (ofBits binary32 0x7f7f_ffff)
-    ∷ same (wholeOf (ofBits binary32 0xff7f_ffff)) (negsuc ((2 ^ 24 - 1) * 2 ^ 104 - 1))
+    ∷ same (wholePart (ofBits binary32 0xff7f_ffff)) (negsuc ((2 ^ 24 - 1) * 2 ^ 104 - 1))
     -- clamped between −600 and 800: 2^100, −2^100, an infinity and a NaN
-    ∷ same (clamped (wholeOf (ofBits binary32 0x7180_0000)) (negsuc 599) (pos 800)) (pos 800)
-    ∷ same (clamped (wholeOf (ofBits binary32 0xf180_0000)) (negsuc 599) (pos 800)) (negsuc 599)
-    ∷ same (clamped (wholeOf (inf false)) (negsuc 599) (pos 800)) (pos 0)
-    ∷ same (clamped (wholeOf nan) (negsuc 599) (pos 800)) (pos 0)
+    ∷ same (clamped (wholePart (ofBits binary32 0x7180_0000)) (negsuc 599) (pos 800)) (pos 800)
+    ∷ same (clamped (wholePart (ofBits binary32 0xf180_0000)) (negsuc 599) (pos 800)) (negsuc 599)
+    ∷ same (clamped (wholePart (inf false)) (negsuc 599) (pos 800)) (pos 0)
+    ∷ same (clamped (wholePart nan) (negsuc 599) (pos 800)) (pos 0)
     ∷ []
 
 abbrev all : List Bool → Bool
@@ -71,7 +71,7 @@ all [] = true
 all (b ∷ bs) = b && all bs
 
 holds : all table ≡ true
-unfolding table quotientOf sizeOf negative wholeOf clamped ofBits sub add mul div ofInt
+unfolding table quotientOf sizeOf negative wholePart clamped ofBits sub add mul div ofInt
 holds = refl
 
 -- T 2^−149, the smallest float, rated 1: q is 1000000 × 2^−149, still subnormal

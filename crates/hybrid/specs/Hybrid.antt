@@ -37,8 +37,8 @@ negative (inf s) = s
 negative (fin s m e) = s
 
 -- "the demand is q's whole part, towards zero"
-unfoldable pub wholeOf : Float → ℤ
-wholeOf q = cond (negative q) (negℤ (pos (sizeOf q))) (pos (sizeOf q))
+unfoldable pub wholePart : Float → ℤ
+wholePart q = cond (negative q) (negℤ (pos (sizeOf q))) (pos (sizeOf q))
 
 -- z, or the end of the i32 range that it is beyond. It stands in no public promise: a clamp between two i32 cannot tell it from z.
 unfoldable pub saturated : ℤ → ℤ

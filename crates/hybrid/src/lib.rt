@@ -7,7 +7,7 @@ ghost use Prim.Native.Nat.{_-_, _^_, _≤_, min};
 ghost use lib.IntN.{pos, negℤ};
 ghost use lib.Ieee.{binary32, ofBits};
 ghost use Rattle.counts.specs.Clamp.{clamped};
-ghost use Rattle.hybrid.specs.Hybrid.{quotientOf, finite, sizeOf, wholeOf, saturated};
+ghost use Rattle.hybrid.specs.Hybrid.{quotientOf, finite, sizeOf, wholePart, saturated};
 
 // Gains, targets, feed-forward torque, and the actual position and speed: radians, radians a second, newton metres.
 pub struct Hybrid {
@@ -70,7 +70,7 @@ fn signed(negative: bool, n: u32) -> i32
 
 // q's whole part, and the nearer end of the i32 range where it is beyond it.
 fn whole(q: f32) -> i32
-    ensures { λ r. ⌜ r ≡ saturated (wholeOf q) ⌝ }
+    ensures { λ r. ⌜ r ≡ saturated (wholePart q) ⌝ }
 {
     if is_finite(q) {
         let bits = f32::to_bits(q);
@@ -82,7 +82,7 @@ fn whole(q: f32) -> i32
 
 // q's whole part, towards zero, clamped between low and high; of a q that is not finite, 0 clamped.
 pub fn demand(q: f32, low: i32, high: i32) -> i32
-    ensures { λ r. ⌜ r ≡ clamped (wholeOf q) low high ⌝ }
+    ensures { λ r. ⌜ r ≡ clamped (wholePart q) low high ⌝ }
 {
     counts::clamp(whole(q), low, high)
 }

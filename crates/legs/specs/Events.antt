@@ -73,7 +73,7 @@ unfoldable pub eventCounts : Leg → View → Bool
 eventCounts l v = not (v .halted) && (movementFits l v && edgeSeen l v)
 
 -- "A limit rise in travel direction, with or without movement"; and in a halted tick nothing counts. That the event of the same tick goes
--- first is said where both are asked (`advance`, `tickIn`).
+-- first is said where both are asked (`advance`, `legTick`).
 unfoldable pub limitCounts : Leg → View → Bool
 limitCounts l v = not (v .halted) && limitRises (l .forward) v
 

@@ -7,15 +7,15 @@ use lib.Dec.{eqb}
 use borrow.Author.Tests.{eqb-true}
 use Rattle.modes.specs.declared.Mode.{Mode}
 use Rattle.modes.specs.declared.Mode.the-variants.{None}
-use Rattle.modes.specs.Modes.{modePlace, isMode, matchedOf}
+use Rattle.modes.specs.Modes.{modeOrdinal, isMode, matchedOf}
 
--- whatever is asked of a mode by its place, before the test that both are the same
-swapped : (f : ℕ → Bool) (w m : Mode) → f (modePlace m) && isMode w m ≡ f (modePlace w) && isMode w m
+-- whatever is asked of a mode by its ordinal, before the test that both are the same
+swapped : (f : ℕ → Bool) (w m : Mode) → f (modeOrdinal m) && isMode w m ≡ f (modeOrdinal w) && isMode w m
 swapped f w m = go (isMode w m) refl
   where
-    go : (b : Bool) → isMode w m ≡ b → f (modePlace m) && b ≡ f (modePlace w) && b
-    go true e = ap (λ (n : ℕ). f n && true) (sym (eqb-true (modePlace w) (modePlace m) e))
-    go false e = and-false (f (modePlace m)) ∙ sym (and-false (f (modePlace w)))
+    go : (b : Bool) → isMode w m ≡ b → f (modeOrdinal m) && b ≡ f (modeOrdinal w) && b
+    go true e = ap (λ (n : ℕ). f n && true) (sym (eqb-true (modeOrdinal w) (modeOrdinal m) e))
+    go false e = and-false (f (modeOrdinal m)) ∙ sym (and-false (f (modeOrdinal w)))
 
 pub asked-of-shown : (w m : Mode) → not (isMode m None) && isMode w m ≡ matchedOf w m
 asked-of-shown w m = swapped (λ n. not (eqb n 0)) w m
@@ -28,5 +28,5 @@ matched-mode w m x = go (isMode w m) refl
     a = not (isMode w None)
 
     go : (b : Bool) → isMode w m ≡ b → (a && b) && isMode m x ≡ (a && b) && isMode w x
-    go true e = ap (λ (n : ℕ). (a && true) && eqb n (modePlace x)) (sym (eqb-true (modePlace w) (modePlace m) e))
+    go true e = ap (λ (n : ℕ). (a && true) && eqb n (modeOrdinal x)) (sym (eqb-true (modeOrdinal w) (modeOrdinal m) e))
     go false e = rw (and-false a)

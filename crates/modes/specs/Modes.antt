@@ -18,16 +18,16 @@ modeNumber Homing = pos 6
 modeNumber Position = pos 8
 modeNumber Torque = pos 10
 
--- modes are told apart by their places in that list
-abbrev pub modePlace : Mode → ℕ
-modePlace None = 0
-modePlace Hybrid = 1
-modePlace Homing = 2
-modePlace Position = 3
-modePlace Torque = 4
+-- modes are told apart by their numbers in that list
+abbrev pub modeOrdinal : Mode → ℕ
+modeOrdinal None = 0
+modeOrdinal Hybrid = 1
+modeOrdinal Homing = 2
+modeOrdinal Position = 3
+modeOrdinal Torque = 4
 
 abbrev pub isMode : Mode → Mode → Bool
-isMode m n = eqb (modePlace m) (modePlace n)
+isMode m n = eqb (modeOrdinal m) (modeOrdinal n)
 
 -- shown: the mode shown before the tick. "A command's mode becomes the shown mode if the state before was not Operation enabled, or
 -- standstill is set. Otherwise the shown mode stays."

@@ -1,7 +1,7 @@
 // Modes of operation: what a command asks for, which mode the drive shows, and whether the command is matched.
 use states::State;
 ghost use mathlib.Core.Path.{_≡_};
-ghost use Rattle.modes.specs.Modes.{modeNumber, modePlace, isMode, shownOf, matchedOf};
+ghost use Rattle.modes.specs.Modes.{modeNumber, modeOrdinal, isMode, shownOf, matchedOf};
 
 // Modes of operation. None: what a fresh axis shows, and what a command asks for that has no mode.
 pub enum Mode {
@@ -25,9 +25,9 @@ pub fn number(mode: Mode) -> i32
     }
 }
 
-// The mode's place in the list above.
-pub fn place(mode: Mode) -> u32
-    ensures { λ r. ⌜ r ≡ modePlace mode ⌝ }
+// The mode's number in the list above, from 0.
+pub fn ordinal(mode: Mode) -> u32
+    ensures { λ r. ⌜ r ≡ modeOrdinal mode ⌝ }
 {
     match mode {
         Mode::None => 0,
@@ -41,7 +41,7 @@ pub fn place(mode: Mode) -> u32
 pub fn is_mode(mode: Mode, other: Mode) -> bool
     ensures { λ r. ⌜ r ≡ isMode mode other ⌝ }
 {
-    place(mode) == place(other)
+    ordinal(mode) == ordinal(other)
 }
 
 // The shown mode after a tick: before is the drive's state before it.

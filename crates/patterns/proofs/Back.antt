@@ -15,8 +15,8 @@ use Rattle.states.specs.declared.State.the-variants.{NotReady, SwitchOnDisabled
 use Rattle.states.specs.States.{stateNumber}
 use Rattle.modes.specs.declared.Mode.{Mode}
 use Rattle.modes.specs.declared.Mode.the-variants.{None, Hybrid, Homing, Position, Torque}
-use Rattle.modes.specs.Modes.{modePlace}
-use Rattle.patterns.specs.Patterns.{weighed, switchBits, stateOf, modeOf}
+use Rattle.modes.specs.Modes.{modeOrdinal}
+use Rattle.patterns.specs.Patterns.{weighed, switchBits, stateAt, modeAt}
 
 pub signed-back : (z : ℤ) → mag z < 2 ^ 31 → wrapped (pos (modulo 32 z)) ≡ z
 unfolding modulo signed wrapped
@@ -46,8 +46,8 @@ bits-of false false false false = refl
 pub bits-back : (s : Switches) → switchesIn (switchBits s) ≡ s
 bits-back s = bits-of (s .positive) (s .negative) (s .home) (s .index)
 
-pub state-back : (s : State) → stateOf (stateNumber s) ≡ s
-unfolding stateOf
+pub state-back : (s : State) → stateAt (stateNumber s) ≡ s
+unfolding stateAt
 state-back NotReady = refl
 state-back SwitchOnDisabled = refl
 state-back Ready = refl
@@ -57,8 +57,8 @@ state-back QuickStopActive = refl
 state-back FaultReaction = refl
 state-back Fault = refl
 
-pub mode-back : (m : Mode) → modeOf (modePlace m) ≡ m
-unfolding modeOf
+pub mode-back : (m : Mode) → modeAt (modeOrdinal m) ≡ m
+unfolding modeAt
 mode-back None = refl
 mode-back Hybrid = refl
 mode-back Homing = refl

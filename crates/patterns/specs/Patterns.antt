@@ -22,9 +22,9 @@ weighed on weight = cond on weight 0
 abbrev pub switchBits : Switches → ℕ
 switchBits s = weighed (s .positive) 1 + weighed (s .negative) 2 + weighed (s .home) 4 + weighed (s .index) 8
 
--- the state of a `stateNumber`, the mode of a `modePlace`; of a number past the last, what a fresh axis has
-unfoldable pub stateOf : ℕ → State
-stateOf n =
+-- the state of a `stateNumber`, the mode of a `modeOrdinal`; of a number past the last, what a fresh axis has
+unfoldable pub stateAt : ℕ → State
+stateAt n =
     cond (eqb n 1) SwitchOnDisabled
     (cond (eqb n 2) Ready
     (cond (eqb n 3) SwitchedOn
@@ -33,5 +33,5 @@ stateOf n =
     (cond (eqb n 6) FaultReaction
     (cond (eqb n 7) Fault NotReady))))))
 
-unfoldable pub modeOf : ℕ → Mode
-modeOf n = cond (eqb n 1) Hybrid (cond (eqb n 2) Homing (cond (eqb n 3) Position (cond (eqb n 4) Torque None)))
+unfoldable pub modeAt : ℕ → Mode
+modeAt n = cond (eqb n 1) Hybrid (cond (eqb n 2) Homing (cond (eqb n 3) Position (cond (eqb n 4) Torque None)))

@@ -7,7 +7,7 @@ ghost use Prim.Native.Nat.{_≤_};
 ghost use lib.IntN.{pos};
 ghost use Rattle.counts.specs.Wrap.{modulo, wrapped};
 ghost use Rattle.legs.specs.Events.{switchesIn};
-ghost use Rattle.patterns.specs.Patterns.{weighed, switchBits, stateOf, modeOf};
+ghost use Rattle.patterns.specs.Patterns.{weighed, switchBits, stateAt, modeAt};
 
 // A word read as signed.
 pub fn signed(word: u32) -> i32
@@ -50,7 +50,7 @@ pub fn switch_bits(s: Switches) -> u32
 
 // The state of a number (`states::state_number`).
 pub fn state_of(number: u32) -> State
-    ensures { λ r. ⌜ r ≡ stateOf number ⌝ }
+    ensures { λ r. ⌜ r ≡ stateAt number ⌝ }
 {
     match number {
         1 => State::SwitchOnDisabled,
@@ -64,9 +64,9 @@ pub fn state_of(number: u32) -> State
     }
 }
 
-// The mode of a number (`modes::place`).
+// The mode of a number (`modes::ordinal`).
 pub fn mode_of(number: u32) -> Mode
-    ensures { λ r. ⌜ r ≡ modeOf number ⌝ }
+    ensures { λ r. ⌜ r ≡ modeAt number ⌝ }
 {
     match number {
         1 => Mode::Hybrid,

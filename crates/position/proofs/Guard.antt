@@ -8,10 +8,10 @@ use Rattle.settings.specs.Ranges.{inRange}
 use Rattle.gears.proofs.Guards.{gear-plain}
 use Rattle.position.specs.declared.Followed.{Followed}
 use Rattle.position.specs.declared.Followed.the-variants.{Target, Nothing}
-use Rattle.position.specs.Position.{limitedOf, placeOf, positionOf, plainPosition}
+use Rattle.position.specs.Position.{withinLimits, countOf, positionOf, plainPosition}
 
 pub position-plain : (s : Settings) → inRange s ≡ true → (home : ℤ) (f : Followed) (actual : ℤ)
     → positionOf s home f actual ≡ plainPosition s home f actual
-unfolding placeOf
-position-plain s e home (Target target) actual = rw (gear-plain s e (limitedOf s target))
+unfolding countOf
+position-plain s e home (Target target) actual = rw (gear-plain s e (withinLimits s target))
 position-plain s e home Nothing actual = refl

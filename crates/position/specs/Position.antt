@@ -19,20 +19,20 @@ abbrev pub followedOf : Bool → State → Bool → ℤ → Followed
 followedOf matched state homed target = cond (matched && is state OperationEnabled && homed) (Target target) Nothing
 
 -- the target within the stops
-abbrev pub limitedOf : Settings → ℤ → ℤ
-limitedOf s target = clamped target (s .lower) (s .upper)
+abbrev pub withinLimits : Settings → ℤ → ℤ
+withinLimits s target = clamped target (s .lower) (s .upper)
 
 -- its count
-unfoldable pub placeOf : Settings → ℤ → ℤ → ℤ
-placeOf s home target = wrapped (home +ℤ gearedOf s (limitedOf s target))
+unfoldable pub countOf : Settings → ℤ → ℤ → ℤ
+countOf s home target = wrapped (home +ℤ gearedOf s (withinLimits s target))
 
 abbrev pub positionOf : Settings → ℤ → Followed → ℤ → ℤ
-positionOf s home (Target target) actual = placeOf s home target
+positionOf s home (Target target) actual = countOf s home target
 positionOf s home Nothing actual = actual
 
 -- the same with no guard
 abbrev pub plainPosition : Settings → ℤ → Followed → ℤ → ℤ
-plainPosition s home (Target target) actual = wrapped (home +ℤ plainGear s (limitedOf s target))
+plainPosition s home (Target target) actual = wrapped (home +ℤ plainGear s (withinLimits s target))
 plainPosition s home Nothing actual = actual
 
 -- "the followed target was clamped": it is outside the stops

@@ -2,7 +2,7 @@
 use settings::Settings;
 use states::State;
 ghost use mathlib.Core.Path.{_≡_};
-ghost use Rattle.position.specs.Position.{followedOf, limitedOf, placeOf, positionOf, outsideOf, clampedOf};
+ghost use Rattle.position.specs.Position.{followedOf, withinLimits, countOf, positionOf, outsideOf, clampedOf};
 
 // The target that a tick follows, in user units.
 pub enum Followed {
@@ -23,16 +23,16 @@ pub fn follow(matched: bool, state: State, homed: bool, target: i32) -> Followed
 }
 
 // A target within the position limits.
-fn limited(s: Settings, target: i32) -> i32
-    ensures { λ r. ⌜ r ≡ limitedOf s target ⌝ }
+fn within_limits(s: Settings, target: i32) -> i32
+    ensures { λ r. ⌜ r ≡ withinLimits s target ⌝ }
 {
     counts::clamp(target, s.lower, s.upper)
 }
 
-fn place(s: Settings, home: i32, target: i32) -> i32
-    ensures { λ r. ⌜ r ≡ placeOf s home target ⌝ }
+fn count_of(s: Settings, home: i32, target: i32) -> i32
+    ensures { λ r. ⌜ r ≡ countOf s home target ⌝ }
 {
-    let near = limited(s, target);
+    let near = within_limits(s, target);
     let count = gears::geared(s, near);
     counts::sum(home, count)
 }
@@ -42,7 +42,7 @@ pub fn position(s: Settings, home: i32, target: Followed, actual: i32) -> i32
     ensures { λ r. ⌜ r ≡ positionOf s home target actual ⌝ }
 {
     match target {
-        Followed::Target(t) => place(s, home, t),
+        Followed::Target(t) => count_of(s, home, t),
         Followed::Nothing => actual,
     }
 }

@@ -13,19 +13,19 @@ use Rattle.settings.specs.declared.Verdict.the-variants.{Accepted, Refused}
 use Rattle.settings.specs.declared.Settings.{Settings}
 use Rattle.settings.specs.Refusal.{numberOf}
 use Rattle.checks.specs.Check.{limitsVerdict}
-use Rattle.words.specs.Word.{kindOf, dataOf, wordOf}
+use Rattle.words.specs.Word.{kindOf, dataOf, packed}
 use Rattle.words.specs.Encode.{checksumOf}
 use Rattle.words.specs.Decode.{settingsOf}
 use Rattle.reader.specs.Pending.{Pending, Reading}
 use Rattle.kinds.specs.Fields.{fieldOk}
-use Rattle.reader.specs.Read.{dueKind, refused, stored, complete, started, kept, startOf, fieldOf, judged, endVerdict, endOf, readOf, outcomeNumber}
+use Rattle.reader.specs.Read.{dueKind, refused, stored, complete, started, kept, startRead, fieldRead, judged, endVerdict, endRead, readOf, outcomeNumber}
 use Rattle.reader.proofs.Steps.{read-start, read-out, read-end, read-field, due-below}
 
 pub data AcceptedBy (p : Pending) (w : ℕ) : Type 0 where
   begins : w ≡ 1 → readOf p w ≡ stored started → AcceptedBy p w
   keeps : kindOf w ≡ dueKind (p .count) → (kindOf w ≡ 0 → ⊥) → kindOf w < 14 → fieldOk (kindOf w) (dataOf w) ≡ true
       → readOf p w ≡ stored (kept p (kindOf w) (dataOf w)) → AcceptedBy p w
-  closes : dueKind (p .count) ≡ 15 → w ≡ wordOf 15 (checksumOf (p .values)) → limitsVerdict (settingsOf (p .values)) ≡ Accepted
+  closes : dueKind (p .count) ≡ 15 → w ≡ packed 15 (checksumOf (p .values)) → limitsVerdict (settingsOf (p .values)) ≡ Accepted
       → readOf p w ≡ complete (settingsOf (p .values)) → AcceptedBy p w
 
 -- how a word is read: it is refused, or accepted
@@ -57,7 +57,7 @@ module _ (p : Pending) (w : ℕ) where
   s = settingsOf (p .values)
 
   start : kindOf w ≡ 0 → ReadBy p w
-  unfolding startOf fieldOk
+  unfolding startRead fieldOk
   start k = go (eqb (dataOf w) 1) refl (read-start p w k)
     where
       go : (a : Bool) → eqb (dataOf w) 1 ≡ a → readOf p w ≡ cond a (stored started) (refused UnknownLayout) → ReadBy p w
@@ -65,7 +65,7 @@ module _ (p : Pending) (w : ℕ) where
       go false h e = refuses UnknownLayout e
 
   field : kindOf w ≡ dueKind (p .count) → (kindOf w ≡ 0 → ⊥) → (kindOf w ≡ 15 → ⊥) → ReadBy p w
-  unfolding fieldOf
+  unfolding fieldRead
   field d n f = go (fieldOk (kindOf w) (dataOf w)) refl (read-field p w d n f)
     where
       go : (a : Bool) → fieldOk (kindOf w) (dataOf w) ≡ a → readOf p w ≡ cond a (stored (kept p (kindOf w) (dataOf w))) (refused OutOfRange) → ReadBy p w
@@ -73,7 +73,7 @@ module _ (p : Pending) (w : ℕ) where
       go false h e = refuses OutOfRange e
 
   end : kindOf w ≡ dueKind (p .count) → kindOf w ≡ 15 → ReadBy p w
-  unfolding endOf endVerdict
+  unfolding endRead endVerdict
   end d k = go (eqb (dataOf w) (checksumOf (p .values))) refl (limitsVerdict s) refl (read-end p w d k)
     where
       go : (a : Bool) → eqb (dataOf w) (checksumOf (p .values)) ≡ a → (v : Verdict) → limitsVerdict s ≡ v

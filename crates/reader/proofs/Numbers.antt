@@ -19,7 +19,7 @@ use Rattle.words.specs.Encode.{checksumOf}
 use Rattle.words.specs.Decode.{settingsOf}
 use Rattle.reader.specs.Pending.{Pending}
 use Rattle.kinds.specs.Fields.{fieldOk}
-use Rattle.reader.specs.Read.{refused, stored, started, kept, outOfSequence, startOf, fieldOf, judged, endVerdict, endOf, readOf, outcomeNumber}
+use Rattle.reader.specs.Read.{refused, stored, started, kept, outOfSequence, startRead, fieldRead, judged, endVerdict, endRead, readOf, outcomeNumber}
 use Rattle.reader.specs.Cases.{isStart, isEnd, testsOf, Numbers}
 
 judged-number : (s : Settings) (v : Verdict) → outcomeNumber (judged s v .outcome) ≡ verdictNumber v
@@ -30,8 +30,8 @@ module _ (p : Pending) (w : ℕ) where
   abbrev s : Settings
   s = settingsOf (p .values)
 
-  end-number : outcomeNumber (endOf p (dataOf w) .outcome) ≡ cond (not (eqb (dataOf w) (checksumOf (p .values)))) 4 (firstOf (checks.limitTests s))
-  unfolding endOf endVerdict
+  end-number : outcomeNumber (endRead p (dataOf w) .outcome) ≡ cond (not (eqb (dataOf w) (checksumOf (p .values)))) 4 (firstOf (checks.limitTests s))
+  unfolding endRead endVerdict
   end-number = go (eqb (dataOf w) (checksumOf (p .values)))
     where
       go : (a : Bool)
@@ -40,7 +40,7 @@ module _ (p : Pending) (w : ℕ) where
       go false = refl
 
   read-number : outcomeNumber (readOf p w .outcome) ≡ firstOf (testsOf p w)
-  unfolding readOf startOf fieldOf fieldOk
+  unfolding readOf startRead fieldRead fieldOk
   read-number = go (outOfSequence p w) (isStart w) refl (isEnd w) refl
     where
       start : (a : Bool) → outcomeNumber (cond a (stored started) (refused UnknownLayout) .outcome) ≡ cond (not a) 2 0
@@ -52,7 +52,7 @@ module _ (p : Pending) (w : ℕ) where
       field false = refl
 
       go : (o k : Bool) → isStart w ≡ k → (e : Bool) → isEnd w ≡ e
-          → outcomeNumber (cond o (refused OutOfSequence) (cond k (startOf (dataOf w)) (cond e (endOf p (dataOf w)) (fieldOf p (kindOf w) (dataOf w)))) .outcome)
+          → outcomeNumber (cond o (refused OutOfSequence) (cond k (startRead (dataOf w)) (cond e (endRead p (dataOf w)) (fieldRead p (kindOf w) (dataOf w)))) .outcome)
           ≡ cond o 1
           (cond (k && not (eqb (dataOf w) 1)) 2
           (cond (not k && not e && not (fieldOk (kindOf w) (dataOf w))) 3

@@ -9,14 +9,14 @@ use lib.Dec.{eqb, ltb}
 use Rattle.settings.specs.declared.Refusal.the-variants.{OutOfSequence}
 use Rattle.reader.specs.Pending.{Pending}
 use Rattle.words.specs.Word.{kindOf, dataOf}
-use Rattle.reader.specs.Read.{dueKind, refused, startOf, fieldOf, endOf, readOf}
+use Rattle.reader.specs.Read.{dueKind, refused, startRead, fieldRead, endRead, readOf}
 
 never : (b : Bool) → not b && not true ≡ false
 never true = refl
 never false = refl
 
 module _ (p : Pending) (w : ℕ) where
-  pub read-start : kindOf w ≡ 0 → readOf p w ≡ startOf (dataOf w)
+  pub read-start : kindOf w ≡ 0 → readOf p w ≡ startRead (dataOf w)
   unfolding readOf
   read-start k = rw (eq-eqb (kindOf w) 0 k, never (eqb (kindOf w) (dueKind (p .count))))
 
@@ -24,11 +24,11 @@ module _ (p : Pending) (w : ℕ) where
   unfolding readOf
   read-out z n = rw (ne-eqb (kindOf w) 0 z, ne-eqb (kindOf w) (dueKind (p .count)) n)
 
-  pub read-end : kindOf w ≡ dueKind (p .count) → kindOf w ≡ 15 → readOf p w ≡ endOf p (dataOf w)
+  pub read-end : kindOf w ≡ dueKind (p .count) → kindOf w ≡ 15 → readOf p w ≡ endRead p (dataOf w)
   unfolding readOf
   read-end d e = rw (eq-eqb (kindOf w) (dueKind (p .count)) d, ne-eqb (kindOf w) 0 (λ z. omega arith), eq-eqb (kindOf w) 15 e)
 
-  pub read-field : kindOf w ≡ dueKind (p .count) → (kindOf w ≡ 0 → ⊥) → (kindOf w ≡ 15 → ⊥) → readOf p w ≡ fieldOf p (kindOf w) (dataOf w)
+  pub read-field : kindOf w ≡ dueKind (p .count) → (kindOf w ≡ 0 → ⊥) → (kindOf w ≡ 15 → ⊥) → readOf p w ≡ fieldRead p (kindOf w) (dataOf w)
   unfolding readOf
   read-field d z e = rw (eq-eqb (kindOf w) (dueKind (p .count)) d, ne-eqb (kindOf w) 0 z, ne-eqb (kindOf w) 15 e)
 

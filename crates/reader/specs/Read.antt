@@ -48,16 +48,16 @@ abbrev pub outOfSequence : Pending → ℕ → Bool
 outOfSequence p w = not (eqb (kindOf w) (dueKind (p .count))) && not (eqb (kindOf w) 0)
 
 -- "A start word always begins afresh, also halfway." 2: "start word's data is not 1"
-unfoldable pub startOf : ℕ → Reading
-startOf x = cond (fieldOk 0 x) (stored started) (refused UnknownLayout)
+unfoldable pub startRead : ℕ → Reading
+startRead x = cond (fieldOk 0 x) (stored started) (refused UnknownLayout)
 
 -- one more word's data
 abbrev pub kept : Pending → ℕ → ℕ → Pending
 kept p kind x = record { count = kind + 1; values = set (p .values) kind x }
 
 -- 3: "data outside its field"
-unfoldable pub fieldOf : Pending → ℕ → ℕ → Reading
-fieldOf p kind x = cond (fieldOk kind x) (stored (kept p kind x)) (refused OutOfRange)
+unfoldable pub fieldRead : Pending → ℕ → ℕ → Reading
+fieldRead p kind x = cond (fieldOk kind x) (stored (kept p kind x)) (refused OutOfRange)
 
 -- by what the end word meets: 4, 5, 6 or nothing
 abbrev pub judged : Settings → Verdict → Reading
@@ -71,15 +71,15 @@ closeVerdict s sum x = cond (eqb x sum) (limitsVerdict s) (verdict.Refused Check
 unfoldable pub endVerdict : List ℕ → ℕ → Verdict
 endVerdict values x = closeVerdict (settingsOf values) (checksumOf values) x
 
-unfoldable pub endOf : Pending → ℕ → Reading
-endOf p x = judged (settingsOf (p .values)) (endVerdict (p .values) x)
+unfoldable pub endRead : Pending → ℕ → Reading
+endRead p x = judged (settingsOf (p .values)) (endVerdict (p .values) x)
 
 -- "An end word is tested 1, 4, 5, 6, 7; other words 1, then 2 or 3"; 7 is the axis's
 unfoldable pub readOf : Pending → ℕ → Reading
 readOf p w =
     cond (outOfSequence p w) (refused OutOfSequence)
-    (cond (eqb (kindOf w) 0) (startOf (dataOf w))
-    (cond (eqb (kindOf w) 15) (endOf p (dataOf w)) (fieldOf p (kindOf w) (dataOf w))))
+    (cond (eqb (kindOf w) 0) (startRead (dataOf w))
+    (cond (eqb (kindOf w) 15) (endRead p (dataOf w)) (fieldRead p (kindOf w) (dataOf w))))
 
 -- the number that a word is answered with, before test 7
 abbrev pub outcomeNumber : Outcome → ℕ

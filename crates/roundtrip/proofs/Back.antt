@@ -14,7 +14,7 @@ use Rattle.settings.specs.declared.Settings.{Settings}
 use Rattle.settings.specs.declared.Verdict.the-variants.{Accepted}
 use Rattle.checks.specs.Check.{acceptable, limitsVerdict}
 use Rattle.checks.proofs.Numbers.{acceptable-of}
-use Rattle.words.specs.Word.{kindOf, dataOf, wordOf}
+use Rattle.words.specs.Word.{kindOf, dataOf, packed}
 use Rattle.words.specs.Encode.{checksumOf, wordsFrom, wordsOf}
 use Rattle.words.specs.Decode.{settingsOf}
 use Rattle.words.proofs.Words.{length-words}
@@ -31,7 +31,7 @@ use Rattle.roundtrip.proofs.Thirteen.{values-of, range-of}
 -- what fewer than fifteen words are, of which kind k is due first
 record Rest (p : Pending) (k : ℕ) (ws : List ℕ) (s : Settings) : Type 0 where
   xs : List ℕ
-  words : ws ≡ wordsFrom k xs ++ (wordOf 15 (checksumOf (placed (p .values) k xs)) ∷ [])
+  words : ws ≡ wordsFrom k xs ++ (packed 15 (checksumOf (placed (p .values) k xs)) ∷ [])
   settings : s ≡ settingsOf (placed (p .values) k xs)
   limits : limitsVerdict s ≡ Accepted
   below : Below xs
@@ -40,7 +40,7 @@ record Rest (p : Pending) (k : ℕ) (ws : List ℕ) (s : Settings) : Type 0 wher
 
 long : (p : Pending) (k : ℕ) (ws : List ℕ) (s : Settings) → Rest p k ws s → length ws + k ≡ 15
 long p k ws s r =
-    let n = ap length (r .words) ∙ length-append (wordsFrom k (r .xs)) (wordOf 15 (checksumOf (placed (p .values) k (r .xs))) ∷ []) in
+    let n = ap length (r .words) ∙ length-append (wordsFrom k (r .xs)) (packed 15 (checksumOf (placed (p .values) k (r .xs))) ∷ []) in
     let m = length-words k (r .xs) in
     let c = r .count in
     omega arith
@@ -78,13 +78,13 @@ ending p w s e k q = go (accepted-by p w (ap outcomeNumber e))
         record { xs = []; words = ap (λ (x : ℕ). x ∷ []) i; settings = same; limits = rw same l; below = tt; fields = tt; count = omega arith }
 
 -- one more word in front
-build : (p : Pending) (k x : ℕ) (ws : List ℕ) (s : Settings) → x < 2 ^ 28 → InFields k (x ∷ []) → Rest (kept p k x) (k + 1) ws s → Rest p k (wordOf k x ∷ ws) s
+build : (p : Pending) (k x : ℕ) (ws : List ℕ) (s : Settings) → x < 2 ^ 28 → InFields k (x ∷ []) → Rest (kept p k x) (k + 1) ws s → Rest p k (packed k x ∷ ws) s
 unfolding wordsFrom
 build p k x ws s h i r =
     let c = r .count in
     record {
       xs = x ∷ r .xs;
-      words = ap (λ (t : List ℕ). wordOf k x ∷ t) (r .words);
+      words = ap (λ (t : List ℕ). packed k x ∷ t) (r .words);
       settings = r .settings;
       limits = r .limits;
       below = (h, r .below);
@@ -117,7 +117,7 @@ rest (more {p} {w} {ws} {s} z a) h k q = go (rest a (omega arith)) (accepted-by 
         let c = due-field kind (p .count) d l in
         let t = after p (kept p kind x) w ws s (ap left f) r (kind + 1) (omega arith) in
         let kk : kind ≡ k = omega arith in
-        let ww : wordOf kind x ≡ w = omega arith in
+        let ww : packed kind x ≡ w = omega arith in
         subst₂ (λ (j v : ℕ). Rest p j (v ∷ ws) s) kk ww (build p kind x ws s (omega arith) (i, tt) t)
 
 -- a start word and the fourteen after it

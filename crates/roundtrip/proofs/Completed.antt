@@ -14,7 +14,7 @@ use Rattle.settings.specs.declared.Settings.{Settings}
 use Rattle.settings.specs.declared.Verdict.the-variants.{Accepted}
 use Rattle.checks.specs.Check.{acceptable, limitsVerdict}
 use Rattle.checks.proofs.Numbers.{acceptable-of}
-use Rattle.words.specs.Word.{kindOf, dataOf, wordOf}
+use Rattle.words.specs.Word.{kindOf, dataOf, packed}
 use Rattle.words.specs.Encode.{valuesOf, checksumOf, wordsFrom, wordsOf}
 use Rattle.words.specs.Decode.{settingsOf}
 use Rattle.words.proofs.Widths.{Below}
@@ -66,7 +66,7 @@ pub completes : (s : Settings) (ws : List ℕ) (w : ℕ) → EndsIn s (ws ++ w �
 unfolding wordsOf
 completes s ws w e =
     let front = wordsFrom 0 (valuesOf s) in
-    let end = wordOf 15 (checksumOf (valuesOf s)) in
+    let end = packed 15 (checksumOf (valuesOf s)) in
     let q : ws ++ w ∷ [] ≡ (e .before ++ front) ++ end ∷ [] = e .words ∙ sym (append-assoc (e .before) front (end ∷ [])) in
     let i = snoc-inj ws (e .before ++ front) w end q in
     rw (i .0, i .1, from-append emptyPending (e .before) front)
@@ -93,12 +93,12 @@ none : (ws : List ℕ) → pendingAfter ws ≡ emptyPending → Run ws
 unfolding wordsFrom
 none ws e = record { xs = []; before = ws; words = sym (append-nil ws); fits = tt; fields = tt; short = omega arith; pending = e }
 
-words-append : (k : ℕ) (xs : List ℕ) (x : ℕ) → wordsFrom k (xs ++ x ∷ []) ≡ wordsFrom k xs ++ wordOf (k + length xs) x ∷ []
+words-append : (k : ℕ) (xs : List ℕ) (x : ℕ) → wordsFrom k (xs ++ x ∷ []) ≡ wordsFrom k xs ++ packed (k + length xs) x ∷ []
 unfolding wordsFrom
-words-append k [] x = ap (λ (j : ℕ). wordOf j x ∷ []) (omega arith)
+words-append k [] x = ap (λ (j : ℕ). packed j x ∷ []) (omega arith)
 words-append k (y ∷ xs) x =
     let e : k + 1 + length xs ≡ k + suc (length xs) = omega arith in
-    ap (λ (t : List ℕ). wordOf k y ∷ t) (words-append (k + 1) xs x ∙ ap (λ (j : ℕ). wordsFrom (k + 1) xs ++ wordOf j x ∷ []) e)
+    ap (λ (t : List ℕ). packed k y ∷ t) (words-append (k + 1) xs x ∙ ap (λ (j : ℕ). wordsFrom (k + 1) xs ++ packed j x ∷ []) e)
 
 below-append : (xs : List ℕ) (x : ℕ) → Below xs → x < 2 ^ 28 → Below (xs ++ x ∷ [])
 below-append [] x b h = (h, tt)
@@ -160,7 +160,7 @@ module _ (ws : List ℕ) (w : ℕ) (r : Run ws) where
           let k = due-field (kindOf w) (p .count) d l in
           let n : kindOf w ≡ length xs = omega arith in
           let n0 : kindOf w ≡ 0 + length xs = omega arith in
-          let v : w ≡ wordOf (0 + length xs) x = omega arith in
+          let v : w ≡ packed (0 + length xs) x = omega arith in
           record {
             xs = xs ++ x ∷ [];
             before = r .before;
@@ -182,7 +182,7 @@ run ws = run-from [] ws (none [] refl)
 
 -- fourteen values in their fields are the values of what they are read as
 sealed-is : (xs : List ℕ) → length xs ≡ 14 → Below xs → InFields 0 xs → limitsVerdict (settingsOf xs) ≡ Accepted
-    → (wordsOf (settingsOf xs) ≡ wordsFrom 0 xs ++ wordOf 15 (checksumOf xs) ∷ []) × (acceptable (settingsOf xs) ≡ true)
+    → (wordsOf (settingsOf xs) ≡ wordsFrom 0 xs ++ packed 15 (checksumOf xs) ∷ []) × (acceptable (settingsOf xs) ≡ true)
 unfolding wordsOf fieldOk
 sealed-is [] n b f l = absurd (omega arith)
 sealed-is (x ∷ ys) n b f l =
@@ -198,7 +198,7 @@ completed s ws w o = go (run ws) (read-by (pendingAfter ws) w)
     clash : {X : Type 0} (t : Outcome) → (Complete s ≡ t → ⊥) → readOf (pendingAfter ws) w .outcome ≡ t → X
     clash t n e = absurd (n (sym o ∙ e))
 
-    end : (r : Run ws) → dueKind (pendingAfter ws .count) ≡ 15 → w ≡ wordOf 15 (checksumOf (pendingAfter ws .values))
+    end : (r : Run ws) → dueKind (pendingAfter ws .count) ≡ 15 → w ≡ packed 15 (checksumOf (pendingAfter ws .values))
         → limitsVerdict (settingsOf (pendingAfter ws .values)) ≡ Accepted → s ≡ settingsOf (pendingAfter ws .values) → EndsIn s (ws ++ w ∷ [])
     end r d i l q =
         let xs = r .xs in
@@ -210,7 +210,7 @@ completed s ws w o = go (run ws) (read-by (pendingAfter ws) w)
         let v : pendingAfter ws .values ≡ xs = ap (λ (p : Pending). p .values) (r .pending) ∙ rw (blank, append-nil xs) in
         let a = sealed-is xs n (r .fits) (r .fields) (rw v at l) in
         let same : s ≡ settingsOf xs = q ∙ ap settingsOf v in
-        let u : w ≡ wordOf 15 (checksumOf xs) = i ∙ ap (λ (x : List ℕ). wordOf 15 (checksumOf x)) v in
+        let u : w ≡ packed 15 (checksumOf xs) = i ∙ ap (λ (x : List ℕ). packed 15 (checksumOf x)) v in
         record {
           before = r .before;
           words =

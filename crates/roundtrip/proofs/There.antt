@@ -11,13 +11,13 @@ use Rattle.settings.specs.declared.Settings.{Settings}
 use Rattle.settings.specs.declared.Verdict.the-variants.{Accepted}
 use Rattle.checks.specs.Check.{acceptable, limitsVerdict}
 use Rattle.checks.proofs.Numbers.{passes}
-use Rattle.words.specs.Word.{kindOf, dataOf, wordOf}
+use Rattle.words.specs.Word.{kindOf, dataOf, packed}
 use Rattle.words.specs.Encode.{valuesOf, checksumOf, wordsFrom, wordsOf}
 use Rattle.words.specs.Decode.{settingsOf}
 use Rattle.words.proofs.Widths.{Below, values-below}
 use Rattle.reader.specs.Pending.{Pending, Reading}
 use Rattle.kinds.specs.Fields.{fieldOk}
-use Rattle.reader.specs.Read.{dueKind, stored, complete, started, kept, startOf, fieldOf, endVerdict, endOf, readOf, outcomeNumber}
+use Rattle.reader.specs.Read.{dueKind, stored, complete, started, kept, startRead, fieldRead, endVerdict, endRead, readOf, outcomeNumber}
 use Rattle.reader.proofs.Steps.{read-start, read-end, read-field}
 use Rattle.roundtrip.specs.Unique.{ReadsBack}
 use Rattle.roundtrip.specs.ReadInto.{ReadInto, last, more}
@@ -25,24 +25,24 @@ use Rattle.roundtrip.proofs.Values.{InFields, values-in-fields, values-
 use Rattle.roundtrip.proofs.Placed.{placed, placed-all}
 
 -- a word of the kind due, its data in its field
-step : (p : Pending) (k x : ℕ) → p .count ≡ k → 0 < k → k < 14 → x < 2 ^ 28 → fieldOk k x ≡ true → readOf p (wordOf k x) ≡ stored (kept p k x)
-unfolding fieldOf
+step : (p : Pending) (k x : ℕ) → p .count ≡ k → 0 < k → k < 14 → x < 2 ^ 28 → fieldOk k x ≡ true → readOf p (packed k x) ≡ stored (kept p k x)
+unfolding fieldRead
 step p k x c z l h f =
-    let kind : kindOf (wordOf k x) ≡ k = omega arith in
-    let value : dataOf (wordOf k x) ≡ x = omega arith in
+    let kind : kindOf (packed k x) ≡ k = omega arith in
+    let value : dataOf (packed k x) ≡ x = omega arith in
     let due : k ≡ dueKind (p .count) = rw (c, lt-ltb k 14 l) in
-    read-field p (wordOf k x) (kind ∙ due) (λ e. omega arith) (λ e. omega arith) ∙ rw (kind, value, f)
+    read-field p (packed k x) (kind ∙ due) (λ e. omega arith) (λ e. omega arith) ∙ rw (kind, value, f)
 
 -- the end word
 close : (p : Pending) → p .count ≡ 14 → limitsVerdict (settingsOf (p .values)) ≡ Accepted
-    → readOf p (wordOf 15 (checksumOf (p .values))) ≡ complete (settingsOf (p .values))
-unfolding endOf endVerdict checksumOf
+    → readOf p (packed 15 (checksumOf (p .values))) ≡ complete (settingsOf (p .values))
+unfolding endRead endVerdict checksumOf
 close p c l =
     let x = checksumOf (p .values) in
-    let kind : kindOf (wordOf 15 x) ≡ 15 = omega arith in
-    let value : dataOf (wordOf 15 x) ≡ x = omega arith in
+    let kind : kindOf (packed 15 x) ≡ 15 = omega arith in
+    let value : dataOf (packed 15 x) ≡ x = omega arith in
     let due : 15 ≡ dueKind (p .count) = rw c in
-    read-end p (wordOf 15 x) (kind ∙ due) kind ∙ rw (value, eq-eqb x x refl, l)
+    read-end p (packed 15 x) (kind ∙ due) kind ∙ rw (value, eq-eqb x x refl, l)
 
 -- an accepted word, and what is read after it
 next : (p q : Pending) (w : ℕ) (ws : List ℕ) (s : Settings) → readOf p w ≡ stored q → ReadInto q ws s → ReadInto p (w ∷ ws) s
@@ -52,16 +52,16 @@ next p q w ws s e r =
 -- the values from kind k on, and the end word
 pub reads : (xs : List ℕ) (k : ℕ) (p : Pending) → p .count ≡ k → 0 < k → k + length xs ≡ 14 → Below xs → InFields k xs
     → limitsVerdict (settingsOf (placed (p .values) k xs)) ≡ Accepted
-    → ReadInto p (wordsFrom k xs ++ (wordOf 15 (checksumOf (placed (p .values) k xs)) ∷ [])) (settingsOf (placed (p .values) k xs))
+    → ReadInto p (wordsFrom k xs ++ (packed 15 (checksumOf (placed (p .values) k xs)) ∷ [])) (settingsOf (placed (p .values) k xs))
 unfolding wordsFrom
 reads [] k p c z n b f l = last (ap (λ (a : Reading). a .outcome) (close p (omega arith) l))
 reads (x ∷ xs) k p c z n b f l =
-    next p (kept p k x) (wordOf k x) _ _ (step p k x c z (omega arith) (b .0) (f .0))
+    next p (kept p k x) (packed k x) _ _ (step p k x c z (omega arith) (b .0) (f .0))
     (reads xs (k + 1) (kept p k x) refl (omega arith) (omega arith) (b .1) (f .1) l)
 
 -- a start word
 begin : (p : Pending) → readOf p 1 ≡ stored started
-unfolding startOf fieldOk
+unfolding startRead fieldOk
 begin p = read-start p 1 refl
 
 module _ (s : Settings) (a : acceptable s ≡ true) where
@@ -76,7 +76,7 @@ module _ (s : Settings) (a : acceptable s ≡ true) where
   read : settingsOf (placed (started .values) 1 rest) ≡ s
   read = rw whole (values-read s (passes s a .range))
 
-  after-start : ReadInto started (wordsFrom 1 rest ++ (wordOf 15 (checksumOf (valuesOf s)) ∷ [])) s
+  after-start : ReadInto started (wordsFrom 1 rest ++ (packed 15 (checksumOf (valuesOf s)) ∷ [])) s
   unfolding valuesOf
   after-start =
       let ok = passes s a .range in

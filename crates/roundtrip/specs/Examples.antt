@@ -20,7 +20,7 @@ use Rattle.words.specs.Encode.{valuesOf, total, checksumOf, wordsFrom, wordsOf}
 use Rattle.words.specs.Decode.{settingsOf}
 use Rattle.reader.specs.Pending.{Pending}
 use Rattle.kinds.specs.Fields.{fieldOk}
-use Rattle.reader.specs.Read.{emptyPending, startOf, fieldOf, endVerdict, endOf, readOf, outcomeNumber}
+use Rattle.reader.specs.Read.{emptyPending, startRead, fieldRead, endVerdict, endRead, readOf, outcomeNumber}
 
 -- sheet S
 unfoldable pub words-S : List ℕ
@@ -84,5 +84,5 @@ all [] = true
 all (b ∷ bs) = b && all bs
 
 holds : all table ≡ true
-unfolding table numbers target words-S settings-S modulo signed floorDiv clamped methodOk inRange gearedOf inReach acceptable limitsVerdict valuesOf total checksumOf wordsFrom wordsOf settingsOf fieldOk startOf fieldOf endVerdict endOf readOf
+unfolding table numbers target words-S settings-S modulo signed floorDiv clamped methodOk inRange gearedOf inReach acceptable limitsVerdict valuesOf total checksumOf wordsFrom wordsOf settingsOf fieldOk startRead fieldRead endVerdict endRead readOf
 holds = refl

@@ -4,7 +4,6 @@ use Prim.Native.Nat.{ℕ, _+_, _^_}
 use mathlib.Core.Bool.{Bool, true, false, cond, not, _&&_, _||_}
 use Rattle.states.specs.declared.State.{State}
 use Rattle.states.specs.Status.{statusOf}
-use Rattle.legs.specs.declared.events.Switches.{Switches}
 use Rattle.modes.specs.declared.Mode.{Mode}
 use Rattle.modes.specs.declared.Mode.the-variants.{Homing, Position}
 use Rattle.modes.specs.Modes.{isMode}
@@ -36,8 +35,8 @@ weightOf true weight = weight
 weightOf false weight = 0
 
 -- bit 11 (CiA 402: internal limit active): "11 if POT or NOT is on, or the followed target was clamped"
-abbrev pub limitedOf : Switches → Bool → Bool
-limitedOf now clamped = now .positive || now .negative || clamped
+abbrev pub limitActive : Bool → Bool → Bool → Bool
+limitActive positive negative clamped = positive || negative || clamped
 
 -- bit 10 (CiA 402: target reached): "In mode 6: 10 unless homing runs"
 abbrev pub reachedOf : Mode → Flags → Bool

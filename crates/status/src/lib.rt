@@ -3,9 +3,8 @@ use modes::Mode;
 use states::State;
 ghost use mathlib.Core.Path.{_≡_};
 ghost use Prim.Native.Nat.{_≤_};
-ghost use Rattle.legs.specs.Events.{switchesIn};
 ghost use Rattle.homing.specs.Phase.{phaseOf};
-ghost use Rattle.status.specs.Statusword.{weightOf, limitedOf, flagsIn, homingBits, otherBits, modeBits, statuswordOf};
+ghost use Rattle.status.specs.Statusword.{weightOf, limitActive, flagsIn, homingBits, otherBits, modeBits, statuswordOf};
 
 fn weight(flag: bool, weight: u16) -> u16
     ensures value { λ r. ⌜ r ≡ weightOf flag weight ⌝ }
@@ -14,11 +13,11 @@ fn weight(flag: bool, weight: u16) -> u16
     if flag { weight } else { 0 }
 }
 
-// Bit 11: a limit switch is on, or the followed target was clamped. now: this tick's switches, as bits.
-pub fn limited(now: u32, clamped: bool) -> bool
-    ensures { λ r. ⌜ r ≡ limitedOf (switchesIn now) clamped ⌝ }
+// Bit 11: POT or NOT is on, or the followed target was clamped.
+pub fn limit_active(positive: bool, negative: bool, clamped: bool) -> bool
+    ensures { λ r. ⌜ r ≡ limitActive positive negative clamped ⌝ }
 {
-    (now % 2 == 1) | (now / 2 % 2 == 1) | clamped
+    positive | negative | clamped
 }
 
 // What homing shows in its own mode: 10 unless it runs; 8 and 12 where homed, 13 on an error.

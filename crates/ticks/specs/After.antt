@@ -6,7 +6,7 @@ use lib.IntN.{ℤ}
 use Rattle.settings.specs.declared.Settings.{Settings}
 use Rattle.states.specs.declared.State.{State}
 use Rattle.states.specs.Alarm.{latchedOf}
-use Rattle.control.specs.Control.{rises}
+use Rattle.control.specs.Control.{bitRises}
 use Rattle.modes.specs.declared.Mode.{Mode}
 use Rattle.commands.specs.declared.Command.{Command}
 use Rattle.commands.specs.declared.Command.the-variants.{Hybrid, Homing, Position, Torque, Rest}
@@ -33,7 +33,7 @@ phaseAfter phase method starting v = cond starting (startOf method (v .now .home
 
 -- the same, of a motion; on: homing is matched and the new state is Operation enabled
 abbrev pub phaseBy : Settings → Motion → Tick → Bool → Phase
-phaseBy s a t on = phaseAfter (a .phase) (s .method) (rises (a .control) (t .control) 4 && on) (viewWith (a .switches) (a .position) t on)
+phaseBy s a t on = phaseAfter (a .phase) (s .method) (bitRises (a .control) (t .control) 4 && on) (viewWith (a .switches) (a .position) t on)
 
 unfoldable pub newPhase : Settings → Motion → Tick → Phase
 newPhase s a t = phaseBy s a t (homingIn t (newMode a t) (newState s a t))
@@ -44,7 +44,7 @@ abbrev pub homeAfter : ℤ → Bool → Bool → Bool → ℤ → ℤ
 homeAfter home starting before after position = cond (after && (starting || not before)) position home
 
 abbrev pub homeBy : Motion → Tick → Bool → Phase → ℤ
-homeBy a t on phase = homeAfter (a .home) (rises (a .control) (t .control) 4 && on) (homedIn (a .phase)) (homedIn phase) (t .position)
+homeBy a t on phase = homeAfter (a .home) (bitRises (a .control) (t .control) 4 && on) (homedIn (a .phase)) (homedIn phase) (t .position)
 
 abbrev pub newHome : Settings → Motion → Tick → ℤ
 newHome s a t = homeBy a t (homingIn t (newMode a t) (newState s a t)) (newPhase s a t)

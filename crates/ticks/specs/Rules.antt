@@ -11,8 +11,8 @@ use Rattle.settings.specs.declared.Settings.{Settings}
 use Rattle.states.specs.declared.State.{State}
 use Rattle.states.specs.declared.State.the-variants.{OperationEnabled}
 use Rattle.states.specs.States.{is}
-use Rattle.control.specs.Control.{rises}
-use Rattle.drive.specs.Transitions.{nextOf}
+use Rattle.control.specs.Control.{bitRises}
+use Rattle.drive.specs.Transitions.{nextState}
 use Rattle.modes.specs.declared.Mode.{Mode}
 use Rattle.modes.specs.declared.Mode.the-variants.{Homing}
 use Rattle.modes.specs.Modes.{isMode, shownOf, matchedOf}
@@ -39,7 +39,7 @@ alarmIn s t = alarmOf (demandIn s t) (t .alarm)
 
 -- the new state: by the state and the control word before
 abbrev pub stateAfter : Settings → State → ℕ → Tick → State
-stateAfter s state control t = nextOf state (t .control) control (t .still) (s .option) (alarmIn s t)
+stateAfter s state control t = nextState state (t .control) control (t .still) (s .option) (alarmIn s t)
 
 -- homing is matched and the new state is Operation enabled; `wanted` is the command's mode
 abbrev pub homingOn : Mode → Mode → State → Bool
@@ -48,9 +48,9 @@ homingOn wanted mode state = isMode wanted Homing && matchedOf wanted mode && is
 abbrev pub homingIn : Tick → Mode → State → Bool
 homingIn t mode state = homingOn (modeOf (t .command)) mode state
 
--- "Homing starts when control bit 4 rises, homing is matched and the new state is Operation enabled."
+-- "Homing starts when control bit 4 bitRises, homing is matched and the new state is Operation enabled."
 abbrev pub startsIn : ℕ → Tick → Mode → State → Bool
-startsIn control t mode state = rises control (t .control) 4 && homingIn t mode state
+startsIn control t mode state = bitRises control (t .control) 4 && homingIn t mode state
 
 -- what homing sees of a tick after the start; "a later tick with bit 4 clear, homing not matched or another state makes homing idle"
 abbrev pub viewWith : Switches → ℤ → Tick → Bool → View
@@ -63,5 +63,5 @@ viewWith switches position t on =
       now = t .switches;
     }
 
-abbrev pub viewOf : Switches → ℤ → Tick → Mode → State → View
-viewOf switches position t mode state = viewWith switches position t (homingIn t mode state)
+abbrev pub viewIn : Switches → ℤ → Tick → Mode → State → View
+viewIn switches position t mode state = viewWith switches position t (homingIn t mode state)

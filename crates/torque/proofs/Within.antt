@@ -10,7 +10,7 @@ use lib.Signed.{ltZ, _≤ℤ_, leZ-yes, ltZ-no, ≤ℤ-refl}
 use Rattle.counts.specs.Clamp.{clamped}
 use Rattle.settings.specs.declared.Settings.{Settings}
 use Rattle.torque.specs.declared.LimitSet.{LimitSet}
-use Rattle.torque.specs.Limits.{positiveOf, negativeOf, capOf}
+use Rattle.torque.specs.Limits.{positiveLimit, negativeLimit, capOf}
 use Rattle.torque.specs.Torque.{torqueOf}
 use Rattle.torque.specs.Bounded.{Bounded}
 
@@ -64,10 +64,10 @@ cap-least m l = (omega arith, omega arith)
 pub bounded : (s : Settings) (set : LimitSet) (on : Bool) (demand : ℤ) → Bounded s set (torqueOf s set on demand)
 unfolding torqueOf
 bounded s set true demand =
-    let up = cap-least (s .maximum) (positiveOf s set) in
-    let down = cap-least (s .maximum) (negativeOf s set) in
-    let n = capOf (s .maximum) (negativeOf s set) in
-    let p = capOf (s .maximum) (positiveOf s set) in
+    let up = cap-least (s .maximum) (positiveLimit s set) in
+    let down = cap-least (s .maximum) (negativeLimit s set) in
+    let n = capOf (s .maximum) (negativeLimit s set) in
+    let p = capOf (s .maximum) (positiveLimit s set) in
     let high = at-most demand n p in
     let low = at-least demand n p in
     record {
@@ -79,9 +79,9 @@ bounded s set true demand =
 bounded s set false demand =
     record {
       below-maximum = across 0 (s .maximum);
-      below-limit = across 0 (positiveOf s set);
+      below-limit = across 0 (positiveLimit s set);
       above-maximum = across (s .maximum) 0;
-      above-limit = across (negativeOf s set) 0;
+      above-limit = across (negativeLimit s set) 0;
     }
 
 pub zero-when-off : (s : Settings) (set : LimitSet) (demand : ℤ) → torqueOf s set false demand ≡ pos 0

@@ -5,7 +5,7 @@ use mathlib.Core.List.{List, [], _∷_, _++_}
 use lib.ListN.{getD}
 use Rattle.counts.specs.Wrap.{modulo}
 use Rattle.settings.specs.declared.Settings.{Settings}
-use Rattle.words.specs.Word.{wordOf}
+use Rattle.words.specs.Word.{packed}
 
 -- a limit set in one word: positive limit in the low 14 bits, negative in the high 14
 abbrev pub limitSet : ℕ → ℕ → ℕ
@@ -45,11 +45,11 @@ checksumOf d = total d % 2 ^ 28
 -- data as words of rising kinds
 unfoldable pub wordsFrom : ℕ → List ℕ → List ℕ
 wordsFrom kind [] = []
-wordsFrom kind (x ∷ xs) = wordOf kind x ∷ wordsFrom (kind + 1) xs
+wordsFrom kind (x ∷ xs) = packed kind x ∷ wordsFrom (kind + 1) xs
 
 -- the words of some data, and the end word
 abbrev pub sealed : List ℕ → List ℕ
-sealed d = wordsFrom 0 d ++ (wordOf 15 (checksumOf d) ∷ [])
+sealed d = wordsFrom 0 d ++ (packed 15 (checksumOf d) ∷ [])
 
 unfoldable pub wordsOf : Settings → List ℕ
 wordsOf s = sealed (valuesOf s)

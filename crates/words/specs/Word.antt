@@ -12,8 +12,8 @@ abbrev pub dataOf : ℕ → ℕ
 dataOf w = w % 2 ^ 28
 
 -- the word of a kind and its data
-abbrev pub wordOf : ℕ → ℕ → ℕ
-wordOf kind x = kind * 2 ^ 28 + x
+abbrev pub packed : ℕ → ℕ → ℕ
+packed kind x = kind * 2 ^ 28 + x
 
 -- the same words in the same order
 abbrev pub sameWords : List ℕ → List ℕ → Bool

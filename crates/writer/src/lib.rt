@@ -22,7 +22,7 @@ fn low(position: i32) -> u32
 }
 
 // A limit set in one word's data.
-fn limit_set(positive: u32, negative: u32) -> u32
+fn limit_pair(positive: u32, negative: u32) -> u32
     requires { ⌜ (torqueOk positive ≡ true) × (torqueOk negative ≡ true) ⌝ }
     ensures { λ r. ⌜ r ≡ limitSet positive negative ⌝ }
 {
@@ -37,8 +37,8 @@ fn values(s: Settings) -> [u32; 14]
     let offset = low(s.offset);
     let lower = low(s.lower);
     let upper = low(s.upper);
-    let set1 = limit_set(s.positive1, s.negative1);
-    let set2 = limit_set(s.positive2, s.negative2);
+    let set1 = limit_pair(s.positive1, s.negative1);
+    let set2 = limit_pair(s.positive2, s.negative2);
     [
         1,
         s.method,

@@ -2,7 +2,7 @@
 -- Assumes nothing.
 use mathlib.Core.Path.{sym, ap, _∙_}
 use Rattle.states.specs.States.{liveOf}
-use Rattle.axis.proofs.Taking.{live-end, activating-end}
+use Rattle.axis.proofs.Taking.{live-end, takeover-end}
 use borrow.Author.Needs.{needs}
 use Rattle.axis.proofs.complete.Statement.{statement}
 use Rattle.axis.proofs.complete.Tie as tie
@@ -13,8 +13,8 @@ state-requires c κs = search needs
 is-live-requires : tie.Need-is-live-requires
 is-live-requires c κs = search needs
 
-activate-requires : tie.Need-activate-requires
-activate-requires c κs = search needs
+take-over-requires : tie.Need-take-over-requires
+take-over-requires c κs = search needs
 
 returns : tie.Need-returns
 returns c =
@@ -25,8 +25,8 @@ returns-2 : tie.Need-returns-2
 returns-2 c =
     let e = c .before .before in
     let i = e .before in
-    activating-end _ _ (sym (i .is-live .ensures ∙ ap liveOf (i .before .state .ensures)) ∙ e .if1 .left) (c .activate .ensures)
+    takeover-end _ _ (sym (i .is-live .ensures ∙ ap liveOf (i .before .state .ensures)) ∙ e .if1 .left) (c .take-over .ensures)
 
 pub complete-spec : {M : Type 1} → statement M
 complete-spec =
-    tie.close (tie.spec state-requires is-live-requires activate-requires returns returns-2)
+    tie.close (tie.spec state-requires is-live-requires take-over-requires returns returns-2)

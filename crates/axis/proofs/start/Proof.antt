@@ -3,7 +3,7 @@
 use mathlib.Core.Path.{sym, _∙_}
 use mathlib.Core.Bool.{false}
 use Rattle.settings.specs.declared.Refusal.the-variants.{UnknownLayout}
-use Rattle.reader.specs.Read.{started, startOf}
+use Rattle.reader.specs.Read.{started, startRead}
 use Rattle.axis.proofs.Taking.{kept-word, refused-word}
 use borrow.Author.Needs.{needs}
 use Rattle.axis.proofs.start.Statement.{statement}
@@ -19,13 +19,13 @@ empty-requires : tie.Need-empty-requires
 empty-requires c κs = search needs
 
 returns : tie.Need-returns
-unfolding startOf
+unfolding startRead
 returns c =
     let t = c .before .before in
     rw (sym (t .before .field-ok .ensures) ∙ t .if1 .taken) (kept-word _ _ false started (c .begin .ensures))
 
 returns-2 : tie.Need-returns-2
-unfolding startOf
+unfolding startRead
 returns-2 c =
     let t = c .before .before in
     rw (sym (t .before .field-ok .ensures) ∙ t .if1 .left) (refused-word _ _ false UnknownLayout (c .empty .ensures))

@@ -4,7 +4,7 @@ use mathlib.Core.Path.{sym, _∙_, subst}
 use mathlib.Core.Bool.{false}
 use Rattle.settings.specs.declared.Refusal.the-variants.{OutOfRange}
 use Rattle.reader.specs.Pending.{Pending}
-use Rattle.reader.specs.Read.{kept, fieldOf}
+use Rattle.reader.specs.Read.{kept, fieldRead}
 use Rattle.cells.specs.Cells.{pendingIn}
 use Rattle.cells.specs.Writes.{Pends}
 use Rattle.axis.proofs.Taking.{more-due, kept-word, refused-word}
@@ -22,7 +22,7 @@ empty-requires : tie.Need-empty-requires
 empty-requires c κs = search needs
 
 returns : tie.Need-returns
-unfolding fieldOf
+unfolding fieldRead
 returns c =
     let t = c .before .before in
     let b = t .before .before in
@@ -32,7 +32,7 @@ returns c =
     (kept-word _ _ false (kept p (b .args .kind) (b .args .value)) (subst (λ (q : Pending). Pends (b .args .axis .now) q (c .append .last .0)) k (c .append .ensures)))
 
 returns-2 : tie.Need-returns-2
-unfolding fieldOf
+unfolding fieldRead
 returns-2 c =
     let t = c .before .before in
     rw (sym (t .before .field-ok .ensures) ∙ t .if1 .left) (refused-word _ _ false OutOfRange (c .empty .ensures))

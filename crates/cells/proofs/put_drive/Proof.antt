@@ -14,8 +14,8 @@ state-number-requires c κs = search needs
 element-write-axis : tie.Need-element-write-axis
 element-write-axis c = search needs
 
-place-requires : tie.Need-place-requires
-place-requires c κs = search needs
+ordinal-requires : tie.Need-ordinal-requires
+ordinal-requires c κs = search needs
 
 element-write-axis-2 : tie.Need-element-write-axis-2
 element-write-axis-2 c = search needs
@@ -28,7 +28,7 @@ returns c =
     let n = c .before in
     let l = n .before in
     let x = l .before .before .args in
-    rw (c .place .ensures, n .state-number .ensures) (driven-words (x .axis .now) (l .lent .ensures) (x .state) (x .mode) (x .alarm))
+    rw (c .ordinal .ensures, n .state-number .ensures) (driven-words (x .axis .now) (l .lent .ensures) (x .state) (x .mode) (x .alarm))
 
 pub put-drive-spec : {M : Type 1} → statement M
 put-drive-spec =
@@ -37,7 +37,7 @@ put-drive-spec =
     lent-requires
     state-number-requires
     element-write-axis
-    place-requires
+    ordinal-requires
     element-write-axis-2
     element-write-axis-3
     returns)

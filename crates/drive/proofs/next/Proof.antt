@@ -6,8 +6,8 @@ use mathlib.Core.List.{[], _∷_}
 use lib.Dec.{eqb}
 use borrow.Author.Needs.{needs}
 use Rattle.states.specs.declared.State.the-variants.{FaultReaction}
-use Rattle.control.specs.Control.{controlCommandOf, rises}
-use Rattle.drive.specs.Transitions.{quietOf, settled, nextOf}
+use Rattle.control.specs.Control.{controlCommandOf, bitRises}
+use Rattle.drive.specs.Transitions.{quietOf, settled, nextState}
 use Rattle.drive.proofs.Arms.{state-arm}
 use Rattle.drive.proofs.next.Statement.{statement}
 use Rattle.drive.proofs.next.Tie as tie
@@ -25,28 +25,28 @@ calm-requires : tie.Need-calm-requires
 calm-requires c κs = search needs
 
 returns : tie.Need-returns
-unfolding nextOf
+unfolding nextState
 returns c = rw (c .enum-told .given .1)
 
 returns-2 : tie.Need-returns-2
-unfolding nextOf
+unfolding nextState
 returns-2 c = rw (c .before .before .enum-told2 .given .1, Bool·not-not, ← c .before .rising .ensures, c .if1 .taken)
 
 returns-3 : tie.Need-returns-3
-unfolding nextOf
+unfolding nextState
 returns-3 c = rw (c .before .before .enum-told2 .given .1, Bool·not-not, ← c .before .rising .ensures, c .if1 .left)
 
 -- a state that is neither: an alarm, or the calm answer
 other : (c : tie.At-match-keys3)
     → let x = c .before .args in
     cond (not (eqb (x .alarm) 0)) FaultReaction (quietOf (x .state) (controlCommandOf (x .control)) (x .still) (x .option))
-    ≡ nextOf (x .state) (x .control) (x .before) (x .still) (x .option) (x .alarm)
-unfolding nextOf
+    ≡ nextState (x .state) (x .control) (x .before) (x .still) (x .option) (x .alarm)
+unfolding nextState
 other c =
     let x = c .before .args in
     let quiet = quietOf (x .state) (controlCommandOf (x .control)) (x .still) (x .option) in
     let alarm = not (eqb (x .alarm) 0) in
-    state-arm (λ s. cond alarm FaultReaction quiet) (λ s. settled s alarm (rises (x .before) (x .control) 7) quiet) (x .state) (0 ∷ 1 ∷ 2 ∷ 3 ∷ 4 ∷ 5 ∷ []) (c .match .keys3) refl
+    state-arm (λ s. cond alarm FaultReaction quiet) (λ s. settled s alarm (bitRises (x .before) (x .control) 7) quiet) (x .state) (0 ∷ 1 ∷ 2 ∷ 3 ∷ 4 ∷ 5 ∷ []) (c .match .keys3) refl
 
 returns-4 : tie.Need-returns-4
 returns-4 c = c .calm .ensures ∙ rw (c .before .if2 .taken) at (other (c .before .before))

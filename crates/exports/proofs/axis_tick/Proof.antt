@@ -35,7 +35,7 @@ returns c =
       answer = t .tick2 .result;
       call = subst (λ (x : Tick). TickCall (b .axis .now) x (t .tick2 .last .0) (t .tick2 .result)) (t .before .tick .ensures) (t .tick2 .ensures);
       words = c .put-answer .ensures;
-      said = refl;
+      numbered = refl;
     }
 
 returns-2 : tie.Need-returns-2
@@ -48,7 +48,7 @@ returns-2 c =
       answer = r .refused .result;
       call = refused-tick (b .axis .now) (tickIn (b .event .now) (b .floats .now)) (r .refused .result) (sym (a .is-active .ensures) ∙ i .if1 .left) (r .refused .ensures);
       words = c .put-answer2 .ensures;
-      said = refl;
+      numbered = refl;
     }
 
 pub axis-tick-spec : {M : Type 1} → statement M

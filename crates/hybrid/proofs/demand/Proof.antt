@@ -7,7 +7,7 @@ use mir.Syntax.{w32}
 use mir.Val.{SFits}
 use borrow.Author.Needs.{needs}
 use Rattle.counts.specs.Clamp.{clamped}
-use Rattle.hybrid.specs.Hybrid.{wholeOf}
+use Rattle.hybrid.specs.Hybrid.{wholePart}
 use Rattle.hybrid.proofs.Saturate.{clamp-saturated}
 use Rattle.hybrid.proofs.demand.Statement.{statement}
 use Rattle.hybrid.proofs.demand.Tie as tie
@@ -26,7 +26,7 @@ returns c =
     toZ-ofZ {z = c .clamp .result} (search needs)
     ∙ rw (toZ-ofZ fits, toZ-ofZ (s .fits .low), toZ-ofZ (s .fits .high)) at (c .clamp .ensures)
     ∙ ap (λ (z : ℤ). clamped z (s .args .low) (s .args .high)) (w .whole .ensures)
-    ∙ clamp-saturated (s .args .low) (s .args .high) (s .fits .low) (s .fits .high) (wholeOf (s .args .q))
+    ∙ clamp-saturated (s .args .low) (s .args .high) (s .fits .low) (s .fits .high) (wholePart (s .args .q))
 
 pub demand-spec : {M : Type 1} → statement M
 demand-spec = tie.close (tie.spec whole-requires clamp-requires returns)

@@ -9,7 +9,7 @@ use lib.Ieee.Bits.{ofBits-toBits}
 use mir.Facts.{toZ-ofZ}
 use borrow.Author.Needs.{needs}
 use Rattle.counts.specs.Clamp.{clamped}
-use Rattle.hybrid.specs.Hybrid.{finite, sizeOf, negative, wholeOf, saturated}
+use Rattle.hybrid.specs.Hybrid.{finite, sizeOf, negative, wholePart, saturated}
 use Rattle.hybrid.proofs.Floats.{no-nan, not-finite}
 use Rattle.hybrid.proofs.Pattern.{bits-sign}
 use Rattle.hybrid.proofs.Saturate.{saturates}
@@ -36,7 +36,7 @@ signed-requires : tie.Need-signed-requires
 signed-requires c κs = search needs
 
 returns : tie.Need-returns
-unfolding wholeOf
+unfolding wholePart
 returns c =
     let t = c .before .before in
     let q = t .before .before .args .q in

@@ -1,40 +1,40 @@
 -- `patterns::state_of` meets its contract.
 -- Assumes nothing.
 use borrow.Author.Tests.{ne-eqb}
-use Rattle.patterns.specs.Patterns.{stateOf}
+use Rattle.patterns.specs.Patterns.{stateAt}
 use Rattle.patterns.proofs.state_of.Statement.{statement}
 use Rattle.patterns.proofs.state_of.Tie as tie
 
 returns : tie.Need-returns
-unfolding stateOf
+unfolding stateAt
 returns c = rw (c .match .keys1)
 
 returns-2 : tie.Need-returns-2
-unfolding stateOf
+unfolding stateAt
 returns-2 c = rw (c .match .keys2)
 
 returns-3 : tie.Need-returns-3
-unfolding stateOf
+unfolding stateAt
 returns-3 c = rw (c .match .keys3)
 
 returns-4 : tie.Need-returns-4
-unfolding stateOf
+unfolding stateAt
 returns-4 c = rw (c .match .keys4)
 
 returns-5 : tie.Need-returns-5
-unfolding stateOf
+unfolding stateAt
 returns-5 c = rw (c .match .keys5)
 
 returns-6 : tie.Need-returns-6
-unfolding stateOf
+unfolding stateAt
 returns-6 c = rw (c .match .keys6)
 
 returns-7 : tie.Need-returns-7
-unfolding stateOf
+unfolding stateAt
 returns-7 c = rw (c .match .keys7)
 
 returns-8 : tie.Need-returns-8
-unfolding stateOf
+unfolding stateAt
 returns-8 c = let r = c .match .rest in rw (ne-eqb _ 1 (r .0 .0 .0 .0 .0 .0 .1), ne-eqb _ 2 (r .0 .0 .0 .0 .0 .1), ne-eqb _ 3 (r .0 .0 .0 .0 .1), ne-eqb _ 4 (r .0 .0 .0 .1), ne-eqb _ 5 (r .0 .0 .1), ne-eqb _ 6 (r .0 .1), ne-eqb _ 7 (r .1))
 
 pub state-of-spec : {M : Type 1} → statement M

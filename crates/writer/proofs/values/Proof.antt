@@ -17,14 +17,14 @@ low-requires-2 c κs = search needs
 low-requires-3 : tie.Need-low-requires-3
 low-requires-3 c κs = search needs
 
-limit-set-requires : tie.Need-limit-set-requires
-limit-set-requires c κs =
+limit-pair-requires : tie.Need-limit-pair-requires
+limit-pair-requires c κs =
     let b = c .before .before .before .before .before .before in
     let w = within (b .args .s) (b .pre) in
     search needs
 
-limit-set-requires-2 : tie.Need-limit-set-requires-2
-limit-set-requires-2 c κs =
+limit-pair-requires-2 : tie.Need-limit-pair-requires-2
+limit-pair-requires-2 c κs =
     let b = c .before .before .before .before .before .before .before in
     let w = within (b .args .s) (b .pre) in
     search needs
@@ -42,8 +42,8 @@ returns c =
       f .low .ensures,
       m .low2 .ensures,
       t .low3 .ensures,
-      c .before .limit-set .ensures,
-      c .limit-set2 .ensures,
+      c .before .limit-pair .ensures,
+      c .limit-pair2 .ensures,
       toZ-ofZ (position-fits (s .offset) (w .offset)),
       toZ-ofZ (position-fits (s .lower) (w .lower)),
       toZ-ofZ (position-fits (s .upper) (w .upper)),
@@ -56,6 +56,6 @@ values-spec =
     low-requires
     low-requires-2
     low-requires-3
-    limit-set-requires
-    limit-set-requires-2
+    limit-pair-requires
+    limit-pair-requires-2
     returns)

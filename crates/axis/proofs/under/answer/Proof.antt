@@ -3,11 +3,9 @@
 use mathlib.Core.Path.{ap, _∙_}
 use mir.Facts.{toZ-ofZ}
 use Rattle.patterns.proofs.Numbers.{read32}
-use Rattle.legs.specs.declared.events.Switches.{Switches}
-use Rattle.status.specs.Statusword.{limitedOf}
 use Rattle.ticks.specs.Motion.{driven}
 use Rattle.cells.specs.Cells.{settingsIn, motionIn}
-use Rattle.axis.proofs.Branches.{bits-of-tick, handed}
+use Rattle.axis.proofs.Branches.{handed}
 use borrow.Author.Needs.{needs}
 use Rattle.axis.proofs.under.answer.Statement.{statement}
 use Rattle.axis.proofs.under.answer.Tie as tie
@@ -30,8 +28,8 @@ place-in-requires c κs = search needs
 following-requires : tie.Need-following-requires
 following-requires c κs = search needs
 
-limited-requires : tie.Need-limited-requires
-limited-requires c κs = search needs
+limit-active-requires : tie.Need-limit-active-requires
+limit-active-requires c κs = search needs
 
 number-requires : tie.Need-number-requires
 number-requires c κs = search needs
@@ -44,7 +42,7 @@ returns c =
     let w = c .before in
     let n = w .before in
     let d = n .before in
-    let f = d .before in
+    let f = d .before .before in
     let q = f .before in
     let h = q .before .before in
     let g = h .before in
@@ -53,7 +51,6 @@ returns c =
     let b = p .before in
     let x = b .args in
     let l = x .axis .now in
-    let bits = bits-of-tick (x .t) (x .switches) (b .pre) in
     rw (toZ-ofZ (b .fits .torque), toZ-ofZ (b .fits .speed))
     (handed (settingsIn l) (x .t) (driven (motionIn l) (x .d .state) (x .d .mode) (x .d .alarm)) (x .torque) (x .speed)
     (p .phase .ensures)
@@ -63,7 +60,7 @@ returns c =
     (read32 (q .place-in .result .position) (c .struct-told2 .given .0 .1) ∙ q .place-in .ensures .0 ∙ rw (read32 (h .home .result) (h .home .ok), read32 (x .t .position) (q .before .struct-told .given .1 .1 .0 .1)))
     (q .place-in .ensures .1)
     (f .following .ensures)
-    (d .limited .ensures ∙ ap (λ (y : Switches). limitedOf y (q .place-in .result .clamped)) bits)
+    (d .limit-active .ensures)
     (read32 (n .number .result) (n .number .ok) ∙ n .number .ensures)
     (w .statusword .ensures))
 
@@ -77,7 +74,7 @@ answer-spec =
     home-requires
     place-in-requires
     following-requires
-    limited-requires
+    limit-active-requires
     number-requires
     statusword-requires
     returns)

@@ -3,7 +3,7 @@
 use Prim.Native.Nat.{ℕ}
 use mathlib.Core.Path.{sym, ap, _∙_}
 use Rattle.patterns.proofs.Numbers.{read32}
-use Rattle.control.specs.Control.{rises}
+use Rattle.control.specs.Control.{bitRises}
 use Rattle.legs.specs.declared.events.Switches.{Switches}
 use Rattle.homing.specs.Phase.{homedIn, runningIn}
 use Rattle.cells.specs.Cells.{motionIn}
@@ -44,7 +44,7 @@ returns c =
     let b = m .before .before in
     let l = b .args .axis .now in
     let t = b .args .t in
-    let rising = sym (i .before .rising .ensures ∙ ap (λ (n : ℕ). rises n (t .control) 4) (k .control .ensures)) ∙ i .if1 .taken in
+    let rising = sym (i .before .rising .ensures ∙ ap (λ (n : ℕ). bitRises n (t .control) 4) (k .control .ensures)) ∙ i .if1 .taken in
     let home = h .home-on .ensures ∙ ap (λ (x : Switches). x .home) (bits-of-tick t (b .args .switches) (b .pre)) in
     arrives l t (c .settle .last .0) _ (s .start .result)
     (starts l t (m .method .ensures) rising home (d .bit .ensures) (s .start .ensures))
@@ -81,11 +81,11 @@ returns-2 c =
     let l = b .args .axis .now in
     let t = b .args .t in
     let a = motionIn l in
-    let rising = sym (i .before .rising .ensures ∙ ap (λ (n : ℕ). rises n (t .control) 4) (k .control .ensures)) ∙ i .if1 .left in
+    let rising = sym (i .before .rising .ensures ∙ ap (λ (n : ℕ). bitRises n (t .control) 4) (k .control .ensures)) ∙ i .if1 .left in
     let running = sym (u .before .is-running .ensures ∙ ap runningIn (p .phase .ensures)) ∙ u .if2 .taken in
     arrives l t (c .settle2 .last .0) _ (s .step .result)
     (steps l t (m .method .ensures) rising (p .phase .ensures) (n .seen .ensures) (s .step .ensures))
-    (fresh-step (rises (a .control) (t .control) 4) (a .phase) running)
+    (fresh-step (bitRises (a .control) (t .control) 4) (a .phase) running)
     (read32 (t .position) (c .before .struct-told2 .given .1 .1 .0 .1))
     (c .settle2 .ensures .0)
     (read32 (c .settle2 .result) (c .settle2 .ok) ∙ c .settle2 .ensures .1)
@@ -97,7 +97,7 @@ returns-3 c =
     let i = p .before .before in
     let k = i .before .before in
     let b = k .before .before .before .before .args in
-    let rising = sym (i .before .rising .ensures ∙ ap (λ (n : ℕ). rises n (b .t .control) 4) (k .control .ensures)) ∙ i .if1 .left in
+    let rising = sym (i .before .rising .ensures ∙ ap (λ (n : ℕ). bitRises n (b .t .control) 4) (k .control .ensures)) ∙ i .if1 .left in
     let running = sym (u .is-running .ensures ∙ ap runningIn (p .phase .ensures)) ∙ c .if2 .left in
     rests (b .axis .now) (b .t) rising running
 

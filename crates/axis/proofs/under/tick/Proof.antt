@@ -57,8 +57,7 @@ put-inputs-requires : tie.Need-put-inputs-requires
 put-inputs-requires c κs = search needs
 
 answer-requires : tie.Need-answer-requires
-answer-requires c κs =
-    c .before .before .before .before .before .before .before .before .before .before .before .before .before .before .before .before .before .before .before .before .switch-bits .ensures
+answer-requires c κs = search needs
 
 returns : tie.Need-returns
 returns c =

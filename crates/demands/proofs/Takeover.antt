@@ -13,7 +13,7 @@ use Rattle.settings.specs.declared.Settings.{Settings}
 use Rattle.checks.specs.Check.{acceptable}
 use Rattle.checks.proofs.Numbers.{passes}
 use Rattle.settings.proofs.Within.{both}
-use Rattle.words.specs.Word.{dataOf, wordOf, sameWords}
+use Rattle.words.specs.Word.{dataOf, packed, sameWords}
 use Rattle.words.specs.Encode.{valuesOf, checksumOf, wordsFrom, wordsOf}
 use Rattle.words.specs.Decode.{settingsOf}
 use Rattle.words.proofs.Words.{length-words, length-sealed}
@@ -24,7 +24,7 @@ use Rattle.roundtrip.specs.Stream.{pendingAfter, EndsIn}
 use Rattle.roundtrip.proofs.Values.{values-read}
 use Rattle.roundtrip.proofs.Completed.{completes, completed}
 use Rattle.rules.specs.Axis.{Active, Nothing, Set}
-use Rattle.demands.specs.Activation.{lastFifteen, carried, completedBy}
+use Rattle.demands.specs.Takeover.{lastFifteen, carried, completedBy}
 
 same-refl : (xs : List ℕ) → sameWords xs xs ≡ true
 same-refl [] = refl
@@ -67,7 +67,7 @@ unfolding wordsOf
 front-is s a =
     let ok = passes s a .range in
     let n : length (wordsFrom 0 (valuesOf s)) ≡ 14 = length-words 0 (valuesOf s) ∙ values-length s in
-    rw (take-at (wordsFrom 0 (valuesOf s)) (wordOf 15 (checksumOf (valuesOf s)) ∷ []) 14 n, data-words 0 (valuesOf s) (values-below s ok))
+    rw (take-at (wordsFrom 0 (valuesOf s)) (packed 15 (checksumOf (valuesOf s)) ∷ []) 14 n, data-words 0 (valuesOf s) (values-below s ok))
     (values-read s ok)
 
 pub found : (s : Settings) (ws : List ℕ) → EndsIn s ws → completedBy ws ≡ Set s
@@ -104,8 +104,8 @@ completedIn Stored = Nothing
 completedIn (Complete s) = Set s
 
 -- one word more: the reading of the words and the reader agree
-pub activation : (ws : List ℕ) (w : ℕ) → completedBy (ws ++ w ∷ []) ≡ completedIn (readOf (pendingAfter ws) w .outcome)
-activation ws w = go (readOf (pendingAfter ws) w .outcome) refl
+pub takeover : (ws : List ℕ) (w : ℕ) → completedBy (ws ++ w ∷ []) ≡ completedIn (readOf (pendingAfter ws) w .outcome)
+takeover ws w = go (readOf (pendingAfter ws) w .outcome) refl
   where
     none : (o : Outcome) → readOf (pendingAfter ws) w .outcome ≡ o → ((s : Settings) → o ≡ Complete s → ⊥) → (a : Active) → completedBy (ws ++ w ∷ []) ≡ a → a ≡ Nothing
     none o e n Nothing q = refl

@@ -1,11 +1,11 @@
--- `position::limited` meets its contract.
+-- `position::within_limits` meets its contract.
 -- Assumes nothing.
 use mir.Facts.{toZ-ofZ}
 use mir.Syntax.{w32}
 use mir.Val.{SFits}
 use borrow.Author.Needs.{needs}
-use Rattle.position.proofs.limited.Statement.{statement}
-use Rattle.position.proofs.limited.Tie as tie
+use Rattle.position.proofs.within_limits.Statement.{statement}
+use Rattle.position.proofs.within_limits.Tie as tie
 
 clamp-requires : tie.Need-clamp-requires
 clamp-requires c κs = search needs
@@ -19,5 +19,5 @@ returns c =
     let u : SFits w32 (s .upper) = search needs in
     rw (toZ-ofZ r, c .clamp .ensures, toZ-ofZ (b .fits .target), toZ-ofZ l, toZ-ofZ u)
 
-pub limited-spec : {M : Type 1} → statement M
-limited-spec = tie.close (tie.spec clamp-requires returns)
+pub within-limits-spec : {M : Type 1} → statement M
+within-limits-spec = tie.close (tie.spec clamp-requires returns)

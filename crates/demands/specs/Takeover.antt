@@ -1,7 +1,7 @@
 -- 01: "'Taken over' is read from the list too: an unbroken run of due words from a start word on, none refused, ticks aside, closed by an
 -- end word that meets no refusal; the sheet's fields are what these words carry." Such a run is fifteen words, those of the settings that
 -- they carry; so the settings that words complete are read off their last fifteen. Refusals 1 to 6 are met here; 7, the live drive, in
--- `Known.antt`, `activates`.
+-- `Known.antt`, `takesOver`.
 -- Assumes nothing.
 use Prim.Native.Nat.{ℕ, _-_}
 use mathlib.Core.Bool.{cond, _&&_}
@@ -22,6 +22,6 @@ abbrev pub carried : List ℕ → Settings
 carried ws = settingsOf (map dataOf (take 14 (lastFifteen ws)))
 
 -- the settings that words complete: their last fifteen are the words of settings that are acceptable
--- (`proofs/Activation.antt`: exactly where the words end in `wordsOf s`, and s is acceptable)
+-- (`proofs/Takeover.antt`: exactly where the words end in `wordsOf s`, and s is acceptable)
 unfoldable pub completedBy : List ℕ → Active
 completedBy ws = cond (sameWords (lastFifteen ws) (wordsOf (carried ws)) && acceptable (carried ws)) (Set (carried ws)) Nothing
