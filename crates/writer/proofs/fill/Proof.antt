@@ -1,4 +1,4 @@
--- `words::writer::fill` meets its contract: after i turns the buffer starts with the first i words, and the sum is theirs.
+-- `writer::fill` meets its contract: after i turns the buffer starts with the first i words, and the sum is theirs.
 -- Assumes nothing.
 use Prim.Native.Nat.{_≤_, _<_, _+_, _-_}
 use mathlib.Core.Path.{_≡_, refl, sym, _∙_}

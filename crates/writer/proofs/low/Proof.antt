@@ -1,4 +1,4 @@
--- `words::writer::low` meets its contract: 2 ^ 32 more is not negative, and is the same modulo 2 ^ 28.
+-- `writer::low` meets its contract: 2 ^ 32 more is not negative, and is the same modulo 2 ^ 28.
 -- Assumes nothing.
 use Prim.Native.Nat.{ℕ, suc, _+_, _-_, _%_, _^_, _<_}
 use mathlib.Core.Path.{_≡_, refl}

@@ -1,4 +1,4 @@
--- `words::writer::values` meets its contract.
+-- `writer::values` meets its contract.
 -- Assumes nothing.
 use Rattle.words.proofs.Bits.{position-fits}
 use mir.Facts.{toZ-ofZ}

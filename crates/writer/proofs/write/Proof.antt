@@ -1,4 +1,4 @@
--- `words::writer::write` meets its contract: its tests are the definition's, in its order.
+-- `writer::write` meets its contract: its tests are the definition's, in its order.
 -- Assumes nothing.
 use Prim.Native.Nat.{ℕ, _≤_}
 use mathlib.Core.Path.{_≡_, sym, _∙_}
