@@ -183,7 +183,8 @@ fn place_in(axis: &Lent, home: i32, followed: Followed, actual: i32) -> Place
 }
 
 // What the tick hands out, by the motion that it has left.
-fn answer(axis: &Lent, t: Tick, d: Drive, torque: i32, speed: i32) -> Answer
+fn answer(axis: &Lent, t: Tick, d: Drive, switches: u32, torque: i32, speed: i32) -> Answer
+    requires { ⌜ switches ≡ switchBits (t .switches) ⌝ }
     ensures { λ r. ⌜ r ≡ answerBy (settingsIn (now (axis .entry))) t (driven (motionIn (now (axis .entry))) (d .state) (d .mode) (d .alarm)) torque speed ⌝ }
 {
     let command = t.command;
@@ -193,8 +194,9 @@ fn answer(axis: &Lent, t: Tick, d: Drive, torque: i32, speed: i32) -> Answer
     let followed = ticks::command_target(command, mode, state, homing::is_homed(phase));
     let place = place_in(axis, cells::home(axis), followed, t.position);
     let following = answers::following(followed);
-    let switches = t.switches;
-    let limited = status::limit_active(switches.positive, switches.negative, place.clamped);
+    let positive = events::positive_on(switches);
+    let negative = events::negative_on(switches);
+    let limited = status::limit_active(positive, negative, place.clamped);
     Answer {
         number: 0,
         torque,
@@ -224,5 +226,5 @@ pub fn tick(axis: &mut Lent, t: Tick) -> Answer
     cells::put_drive(axis, state, mode, d.alarm);
     let speed = homing_after(axis, t, bits, ticks::homing_on(wanted, mode, state));
     cells::put_inputs(axis, t.control, bits, t.position);
-    answer(axis, t, d, torque, speed)
+    answer(axis, t, d, bits, torque, speed)
 }

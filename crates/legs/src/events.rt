@@ -23,7 +23,19 @@ const HOME: u32 = 2;
 
 const INDEX: u32 = 3;
 
-// Whether HOM is on.
+// Whether POT, NOT and HOM are on.
+pub fn positive_on(switches: u32) -> bool
+    ensures { λ r. ⌜ r ≡ switchesIn switches .positive ⌝ }
+{
+    switches % 2 == 1
+}
+
+pub fn negative_on(switches: u32) -> bool
+    ensures { λ r. ⌜ r ≡ switchesIn switches .negative ⌝ }
+{
+    switches / 2 % 2 == 1
+}
+
 pub fn home_on(switches: u32) -> bool
     ensures { λ r. ⌜ r ≡ switchesIn switches .home ⌝ }
 {

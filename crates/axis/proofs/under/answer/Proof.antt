@@ -3,9 +3,10 @@
 use mathlib.Core.Path.{ap, _∙_}
 use mir.Facts.{toZ-ofZ}
 use Rattle.patterns.proofs.Numbers.{read32}
+use Rattle.legs.specs.declared.events.Switches.{Switches}
 use Rattle.ticks.specs.Motion.{driven}
 use Rattle.cells.specs.Cells.{settingsIn, motionIn}
-use Rattle.axis.proofs.Branches.{handed}
+use Rattle.axis.proofs.Branches.{bits-of-tick, handed}
 use borrow.Author.Needs.{needs}
 use Rattle.axis.proofs.under.answer.Statement.{statement}
 use Rattle.axis.proofs.under.answer.Tie as tie
@@ -28,6 +29,12 @@ place-in-requires c κs = search needs
 following-requires : tie.Need-following-requires
 following-requires c κs = search needs
 
+positive-on-requires : tie.Need-positive-on-requires
+positive-on-requires c κs = search needs
+
+negative-on-requires : tie.Need-negative-on-requires
+negative-on-requires c κs = search needs
+
 limit-active-requires : tie.Need-limit-active-requires
 limit-active-requires c κs = search needs
 
@@ -42,7 +49,9 @@ returns c =
     let w = c .before in
     let n = w .before in
     let d = n .before in
-    let f = d .before .before in
+    let m = d .before in
+    let o = m .before in
+    let f = o .before in
     let q = f .before in
     let h = q .before .before in
     let g = h .before in
@@ -51,6 +60,7 @@ returns c =
     let b = p .before in
     let x = b .args in
     let l = x .axis .now in
+    let bits = bits-of-tick (x .t) (x .switches) (b .pre) in
     rw (toZ-ofZ (b .fits .torque), toZ-ofZ (b .fits .speed))
     (handed (settingsIn l) (x .t) (driven (motionIn l) (x .d .state) (x .d .mode) (x .d .alarm)) (x .torque) (x .speed)
     (p .phase .ensures)
@@ -60,7 +70,7 @@ returns c =
     (read32 (q .place-in .result .position) (c .struct-told2 .given .0 .1) ∙ q .place-in .ensures .0 ∙ rw (read32 (h .home .result) (h .home .ok), read32 (x .t .position) (q .before .struct-told .given .1 .1 .0 .1)))
     (q .place-in .ensures .1)
     (f .following .ensures)
-    (d .limit-active .ensures)
+    (d .limit-active .ensures ∙ rw (o .positive-on .ensures ∙ ap (λ (y : Switches). y .positive) bits, m .negative-on .ensures ∙ ap (λ (y : Switches). y .negative) bits))
     (read32 (n .number .result) (n .number .ok) ∙ n .number .ensures)
     (w .statusword .ensures))
 
@@ -74,6 +84,8 @@ answer-spec =
     home-requires
     place-in-requires
     following-requires
+    positive-on-requires
+    negative-on-requires
     limit-active-requires
     number-requires
     statusword-requires

@@ -57,7 +57,8 @@ put-inputs-requires : tie.Need-put-inputs-requires
 put-inputs-requires c κs = search needs
 
 answer-requires : tie.Need-answer-requires
-answer-requires c κs = search needs
+answer-requires c κs =
+    c .before .before .before .before .before .before .before .before .before .before .before .before .before .before .before .before .before .before .before .before .switch-bits .ensures
 
 returns : tie.Need-returns
 returns c =
