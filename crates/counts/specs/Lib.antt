@@ -4,3 +4,4 @@ pub mod Divide
 pub mod Clamp
 pub mod Bit
 pub mod Between
+pub mod Tests
