@@ -280,7 +280,7 @@ pub fn put_home(axis: &mut Lent, home: i32)
     ensures { λ _. ⌜ Moved (now (axis .entry)) (homeAt (motionIn (now (axis .entry))) home) (now (axis .exit)) ⌝ }
 {
     lent(*axis);
-    axis[HOME] = patterns::pattern(home);
+    axis[HOME] = counts::pattern(home);
 }
 
 // switches: POT, NOT, HOM, Z, from bit 0 on.
@@ -290,5 +290,5 @@ pub fn put_inputs(axis: &mut Lent, control: u16, switches: u32, position: i32)
     lent(*axis);
     axis[CONTROL] = control as u32;
     axis[SWITCHES] = switches;
-    axis[POSITION] = patterns::pattern(position);
+    axis[POSITION] = counts::pattern(position);
 }

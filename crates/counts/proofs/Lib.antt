@@ -1,3 +1,4 @@
 pub mod Integers
 pub mod Modulo
 pub mod Floor
+pub mod Between

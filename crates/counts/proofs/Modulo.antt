@@ -56,6 +56,13 @@ pub wrapped-shift : (z : ℤ) → SFits w64 z → shrZ (toZ w64 (ofZ w64 z * 2 ^
 unfolding wrapped
 wrapped-shift z h = shifted (ofZ w64 z) ∙ ap (signed 32) (low-bits z h)
 
+-- 2 ^ 32 more is not negative, and is the same modulo 2 ^ 32
+pub raised : (z : ℤ) → SFits w32 z → (k : ℕ) × (z +ℤ pos (2 ^ 32) ≡ pos k) × (k < 2 ^ 33) × (k % 2 ^ 32 ≡ modulo 32 z)
+unfolding modulo
+raised (pos n) h = (n + 2 ^ 32, refl, omega (arith, h .sfits), omega arith)
+raised (negsuc n) h =
+    (2 ^ 32 - suc n, rw (le-ltb (2 ^ 32) (suc n) (omega (arith, h .sfits))), omega arith, omega (arith, h .sfits))
+
 -- a sum modulo 2 ^ 32 takes each part modulo 2 ^ 32
 modulo-sub : (a b : ℕ) → modulo 32 (subℕ a (suc b)) ≡ (modulo 32 (pos a) + modulo 32 (negsuc b)) % 2 ^ 32
 unfolding modulo

@@ -3,3 +3,5 @@ pub mod Movement
 pub mod Divide
 pub mod Clamp
 pub mod Bit
+pub mod Between
+pub mod Tests

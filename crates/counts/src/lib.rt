@@ -1,9 +1,9 @@
-// Encoder counts and other whole numbers of the axis: wrapping difference and sum, clamp, a bit of a word.
+// Encoder counts and other whole numbers of the axis: wrapping difference and sum, pattern, clamp, a bit of a word.
 //
 // Counts are signed 32-bit and wrap around. Every function answers every value of its arguments.
 ghost use mathlib.Core.Path.{_≡_};
 ghost use lib.IntN.{_+ℤ_, _-ℤ_};
-ghost use Rattle.counts.specs.Wrap.{wrapped};
+ghost use Rattle.counts.specs.Wrap.{modulo, wrapped};
 ghost use Rattle.counts.specs.Movement.{movementOf};
 ghost use Rattle.counts.specs.Clamp.{clamped};
 ghost use Rattle.counts.specs.Bit.{bitOf};
@@ -20,6 +20,13 @@ pub fn wrap(z: i64) -> i32
     ensures { λ r. ⌜ r ≡ wrapped z ⌝ }
 {
     ((z << 32) >> 32) as i32
+}
+
+// The 32 bits of a number, which is the number modulo 2^32. The sum and the remainder compile to nothing.
+pub fn pattern(number: i32) -> u32
+    ensures { λ r. ⌜ r ≡ modulo 32 number ⌝ }
+{
+    ((number as i64 + 0x100000000) as u64 % 0x100000000) as u32
 }
 
 // now less before, modulo 2^32 and read as signed.

@@ -5,4 +5,6 @@ pub mod Known
 pub mod Demand
 pub mod Acceptable
 pub mod Whole
+pub mod Sheet
+pub mod Lists
 pub mod Examples

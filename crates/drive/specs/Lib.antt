@@ -1,2 +1,1 @@
 pub mod Transitions
-pub mod Examples

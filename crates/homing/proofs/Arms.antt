@@ -13,7 +13,8 @@ use Rattle.legs.specs.Routes.{Row, rowOf}
 use Rattle.legs.specs.Places.{homePlace, legAt}
 use Rattle.homing.specs.Phase.{Phase, Idle, Running, Failed}
 use Rattle.homing.specs.Places.{entered, limitAt, legTick, runningOf, startIn, startOf}
-use Rattle.legs.proofs.Rows.{between, known, isRow, turn-rule, known-rule, unknown}
+use Rattle.counts.specs.Between.{between}
+use Rattle.legs.proofs.Rows.{known, isRow, turn-rule, known-rule, unknown}
 
 module _ (m p : ℕ) where
   -- a limit turns, comes in a later leg, or in a method with no route b

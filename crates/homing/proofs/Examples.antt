@@ -1,4 +1,5 @@
--- Closed lists of ticks that complete a route, and lists that do not, each computed.
+-- Closed lists of ticks that complete a route, and lists that do not, each computed: of every method, as 01's reading of the routes has
+-- them, which no answer shows. The rehearsed example, bit 4 and halt stand in demands/specs/Examples.antt.
 -- Assumes nothing.
 use mathlib.Core.Path.{_≡_, refl, sym, _∙_}
 use mathlib.Core.Bool.{Bool, true, false, false≢true}
@@ -8,7 +9,7 @@ use lib.IntN.{pos, _-ℤ_}
 use Rattle.counts.specs.Wrap.{modulo, signed, wrapped}
 use Rattle.counts.specs.Movement.{movementOf}
 use Rattle.legs.specs.declared.events.Switches.{Switches}
-use Rattle.legs.specs.Events.{View, allOff, eventCounts, limitCounts}
+use Rattle.legs.specs.Events.{View, allOff, switchesIn, eventCounts, limitCounts}
 use Rattle.legs.specs.Routes.{rowOf, planOf}
 use Rattle.homing.specs.Complete.{CompletesPlan}
 use Rattle.legs.specs.Places.{legAt}
@@ -20,37 +21,32 @@ abbrev off : Switches
 off = allOff
 
 abbrev home : Switches
-home = record { positive = false; negative = false; home = true; index = false }
+home = switchesIn 4
 
 abbrev index : Switches
-index = record { positive = false; negative = false; home = false; index = true }
+index = switchesIn 8
 
 abbrev positive : Switches
-positive = record { positive = true; negative = false; home = false; index = false }
+positive = switchesIn 1
 
 abbrev negative : Switches
-negative = record { positive = false; negative = true; home = false; index = false }
+negative = switchesIn 2
 
 abbrev homeAndPositive : Switches
-homeAndPositive = record { positive = true; negative = false; home = true; index = false }
+homeAndPositive = switchesIn 5
 
 abbrev homeAndNegative : Switches
-homeAndNegative = record { positive = false; negative = true; home = true; index = false }
+homeAndNegative = switchesIn 6
 
--- a later tick: its position and switches; halted: with bit 8 set; released: with bit 4 clear
+-- a later tick: its position and switches, with bit 4 set and bit 8 clear
 pub data Tick : Type 0 where
-  at halted released : ℕ → Switches → Tick
-
-abbrev seen : Bool → Bool → ℕ → ℕ → Switches → Switches → View
-seen kept halt p q s t =
-    record { kept = kept; halted = halt; movement = movementOf (wrapped (pos q -ℤ pos p)); before = s; now = t }
+  at : ℕ → Switches → Tick
 
 -- the ticks after a start at a position, as homing sees them
 abbrev views : ℕ → Switches → List Tick → List View
 views p s [] = []
-views p s (at q t ∷ ts) = seen true false p q s t ∷ views q t ts
-views p s (halted q t ∷ ts) = seen true true p q s t ∷ views q t ts
-views p s (released q t ∷ ts) = seen false false p q s t ∷ views q t ts
+views p s (at q t ∷ ts) =
+    record { kept = true; halted = false; movement = movementOf (wrapped (pos q -ℤ pos p)); before = s; now = t } ∷ views q t ts
 
 -- a start of a method at a position with some switches, and the ticks after it
 pub record Example : Type 0 where
@@ -93,10 +89,8 @@ none-completes (e ∷ es) q = (
 
 abbrev complete : List Example
 complete =
-    -- "Method 23, HOM off, started at 100: 110 on, 112 off, 108 on, 103 off is homed at 103."
-    start 23 100 off (at 110 home ∷ at 112 off ∷ at 108 home ∷ at 103 off ∷ [])
-    -- ticks after the last event undo nothing
-    ∷ start 23 100 off (at 110 home ∷ at 112 off ∷ at 108 home ∷ at 103 off ∷ released 103 positive ∷ [])
+    -- route a
+    start 23 100 off (at 110 home ∷ at 108 off ∷ [])
     -- route b: the limit rises while the axis stands still
     ∷ start 23 100 off (at 120 off ∷ at 120 positive ∷ at 115 home ∷ at 117 off ∷ at 116 home ∷ at 114 off ∷ [])
     -- a limit rise in the tick of a's event is not looked at
@@ -140,18 +134,10 @@ examples-complete = all-complete complete refl
 
 abbrev incomplete : List Example
 incomplete =
-    -- "Counting the drop at 112, while still coasting"
-    start 23 100 off (at 110 home ∷ at 112 off ∷ [])
     -- a start alone, of a method with legs; a number that is no method
-    ∷ start 23 100 off []
+    start 23 100 off []
     ∷ start 33 100 home []
     ∷ start 31 100 off []
-    -- the event of the last leg in a tick with bit 4 clear
-    ∷ start 23 100 home (released 95 off ∷ [])
-    -- bit 4 clear for one tick before it
-    ∷ start 23 100 home (released 99 home ∷ at 95 off ∷ [])
-    -- halted, the edge is lost
-    ∷ start 33 100 off (halted 99 index ∷ at 98 index ∷ [])
     -- no movement
     ∷ start 33 100 off (at 100 index ∷ [])
     -- a limit in any other leg is an error

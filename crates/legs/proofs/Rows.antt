@@ -1,14 +1,16 @@
 -- Which numbers are methods, which methods have a turn, and that every route ends within its four places: tests that antt computes.
 -- Assumes nothing.
 use mathlib.Core.Path.{_≡_, refl, subst, _∙_}
-use mathlib.Core.Bool.{Bool, true, false, cond, _&&_, _||_}
+use mathlib.Core.Bool.{Bool, true, false, cond, _||_}
 use mathlib.Core.List.{List, [], _∷_}
 use mathlib.Core.Option.{Option, none, some}
 use Prim.Native.Nat.{ℕ, _≤_, _<_}
 use native.Mathlib.Omega.{arith}
-use lib.Dec.{T, eqb, leb, ltb, ltb→lt}
+use lib.Dec.{T, eqb, ltb, ltb→lt}
 use lib.ListN.{length}
-use borrow.Author.Tests.{eqb-true, ltb-true, ltb-false, le-leb, lt-leb, ne-eqb}
+use Rattle.counts.specs.Between.{between}
+use Rattle.counts.proofs.Between.{within, under, over}
+use borrow.Author.Tests.{eqb-true, ltb-true, ltb-false, ne-eqb}
 use Rattle.legs.specs.Legs.{Leg}
 use Rattle.legs.specs.Routes.{Row, Entry, table, lookup, rowOf}
 use Rattle.legs.specs.Places.{rest, hasTurn}
@@ -92,19 +94,6 @@ everywhere f g e p q m = go (ltb m 36) refl
     go : (b : Bool) → ltb m 36 ≡ b → f (rowOf m) ≡ g m
     go true t = agree (λ n. f (rowOf n)) g 36 e m (ltb-true m 36 t)
     go false t = let h = ltb-false m 36 t in rw (beyond m h, q m h) p
-
-abbrev pub between : ℕ → ℕ → ℕ → Bool
-between low high x = leb low x && leb x high
-
--- a number lies in a range, below it or above it
-pub within : (low high m : ℕ) → low ≤ m → m ≤ high → between low high m ≡ true
-within low high m h k = rw (le-leb low m h, le-leb m high k)
-
-pub under : (low high m : ℕ) → m < low → between low high m ≡ false
-under low high m h = rw (lt-leb low m h)
-
-pub over : (low high m : ℕ) → low ≤ m → high < m → between low high m ≡ false
-over low high m h k = rw (le-leb low m h, lt-leb m high k)
 
 -- "methods 23 to 30" have a turn
 pub turn-rule : (m : ℕ) → hasTurn (rowOf m) ≡ between 23 30 m

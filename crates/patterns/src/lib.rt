@@ -1,11 +1,12 @@
-// Signed numbers, switches, the drive's states and modes as 32-bit words, and back. Every word means one of each.
+// 32-bit words read as signed numbers, switches, the drive's states and modes. Every word means one of each. Back again:
+// `counts::pattern`, `switch_bits`, `states::state_number`, `modes::place`.
 use legs::events::Switches;
 use modes::Mode;
 use states::State;
 ghost use mathlib.Core.Path.{_≡_};
 ghost use Prim.Native.Nat.{_≤_};
 ghost use lib.IntN.{pos};
-ghost use Rattle.counts.specs.Wrap.{modulo, wrapped};
+ghost use Rattle.counts.specs.Wrap.{wrapped};
 ghost use Rattle.legs.specs.Events.{switchesIn};
 ghost use Rattle.patterns.specs.Patterns.{weighed, switchBits, stateAt, modeAt};
 
@@ -14,13 +15,6 @@ pub fn signed(word: u32) -> i32
     ensures { λ r. ⌜ r ≡ wrapped (pos word) ⌝ }
 {
     counts::wrap(word as i64)
-}
-
-// A number's 32-bit pattern.
-pub fn pattern(number: i32) -> u32
-    ensures { λ r. ⌜ r ≡ modulo 32 number ⌝ }
-{
-    ((number as i64 + 0x100000000) as u64 % 0x100000000) as u32
 }
 
 // The switches in bits 0 to 3: POT, NOT, HOM, Z.

@@ -5,9 +5,7 @@ use mathlib.Core.Bool.{Bool, _&&_, _||_}
 use lib.Dec.{eqb, leb}
 use lib.IntN.{ℤ, pos, negℤ}
 use lib.Signed.{leZ, ltZ}
-
-abbrev pub between : ℕ → ℕ → ℕ → Bool
-between low high x = leb low x && leb x high
+use Rattle.counts.specs.Between.{between}
 
 -- "method 23 to 30, 33, 34 or 35"
 unfoldable pub methodOk : ℕ → Bool

@@ -1,6 +1,7 @@
 // The range of each single field of the settings (01: the sheet, refusal 3).
 ghost use mathlib.Core.Path.{_≡_};
-ghost use Rattle.ranges.specs.Range.{between, methodOk, speedOk, ratioOk, positionOk, torqueOk, optionOk, ratedOk};
+ghost use Rattle.counts.specs.Between.{between};
+ghost use Rattle.ranges.specs.Range.{methodOk, speedOk, ratioOk, positionOk, torqueOk, optionOk, ratedOk};
 
 fn within(low: u32, high: u32, x: u32) -> bool
     ensures { λ r. ⌜ r ≡ between low high x ⌝ }

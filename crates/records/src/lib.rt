@@ -112,10 +112,10 @@ pub fn tick(e: &[u32], f: &[f32]) -> Tick
 fn answer_words(a: Answer) -> [u32; 7]
     ensures { λ r. ⌜ r ≡ answerWords a ⌝ }
 {
-    let torque = patterns::pattern(a.torque);
-    let speed = patterns::pattern(a.speed);
-    let position = patterns::pattern(a.position);
-    let mode = patterns::pattern(a.mode);
+    let torque = counts::pattern(a.torque);
+    let speed = counts::pattern(a.speed);
+    let position = counts::pattern(a.position);
+    let mode = counts::pattern(a.mode);
     [
         a.number,
         torque,

@@ -1,4 +1,3 @@
 pub mod ReadInto
 pub mod Unique
 pub mod Stream
-pub mod Examples

@@ -1,15 +1,13 @@
 -- What digits spell, in ASCII.
 -- Assumes nothing.
 use Prim.Native.Nat.{ℕ, _+_, _-_, _*_, _<_}
-use mathlib.Core.Bool.{Bool, cond, _&&_}
+use mathlib.Core.Bool.{cond}
 use mathlib.Core.List.{List, [], _∷_}
-use lib.Dec.{leb, ltb}
+use lib.Dec.{ltb}
 use lib.ListN.{length}
+use Rattle.counts.specs.Between.{between}
 use Rattle.spelling.specs.declared.Number.{Number}
 use Rattle.spelling.specs.declared.Number.the-variants.{Value, Unreadable}
-
-abbrev pub between : ℕ → ℕ → ℕ → Bool
-between low high b = leb low b && leb b high
 
 -- the value of a digit: `0` to `9`, `A` to `F` or `a` to `f`; 16 for any other byte
 unfoldable pub digitOf : ℕ → ℕ

@@ -1,4 +1,3 @@
 pub mod Limits
 pub mod Torque
 pub mod Bounded
-pub mod Examples

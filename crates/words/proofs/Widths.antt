@@ -8,7 +8,8 @@ use native.Mathlib.Omega.{arith}
 use borrow.Author.Tests.{leb-true, eqb-true}
 use lib.Dec.{leb, eqb}
 use Rattle.settings.specs.declared.Settings.{Settings}
-use Rattle.ranges.specs.Range.{between, methodOk, optionOk}
+use Rattle.counts.specs.Between.{between}
+use Rattle.ranges.specs.Range.{methodOk, optionOk}
 use Rattle.settings.specs.Ranges.{inRange}
 use Rattle.settings.proofs.Within.{within, both}
 use Rattle.words.specs.Encode.{valuesOf, below}

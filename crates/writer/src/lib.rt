@@ -18,7 +18,7 @@ ghost use Rattle.writer.specs.Write.{writeVerdict, written};
 fn low(position: i32) -> u32
     ensures { λ r. ⌜ r ≡ modulo 28 position ⌝ }
 {
-    ((position as i64 + 0x100000000) as u64 % 0x10000000) as u32
+    counts::pattern(position) % KIND
 }
 
 // A limit set in one word's data.

@@ -4,7 +4,8 @@ use mathlib.Core.Path.{_≡_}
 use mathlib.Core.Bool.{false}
 use mathlib.Core.Logic.{⊎-elim}
 use native.Mathlib.Omega.{arith}
-use Rattle.legs.proofs.Rows.{between, within, under, over}
+use Rattle.counts.specs.Between.{between}
+use Rattle.counts.proofs.Between.{within, under, over}
 use Rattle.homing.proofs.Arms.{limit-turns, limit-later, limit-alone}
 use Rattle.homing.proofs.Moving.{rests}
 use borrow.Author.Needs.{needs}

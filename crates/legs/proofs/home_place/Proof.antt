@@ -3,7 +3,7 @@
 use Prim.Native.Nat.{_-_, _%_}
 use native.Mathlib.Omega.{arith}
 use borrow.Author.Tests.{lt-ltb, le-ltb}
-use Rattle.legs.proofs.Rows.{within, under, over}
+use Rattle.counts.proofs.Between.{within, under, over}
 use Rattle.legs.proofs.home_place.Statement.{statement}
 use Rattle.legs.proofs.home_place.Tie as tie
 

@@ -1,13 +1,13 @@
--- `patterns::pattern` meets its contract.
+-- `counts::pattern` meets its contract: 2 ^ 32 more is not negative, and has the same low 32 bits.
 -- Assumes nothing.
 use native.Mathlib.Omega.{arith}
 use mir.Syntax.{w64}
 use mir.ValLaws.{toZ-pos}
 use Rattle.counts.proofs.Integers.{read-wide, cast-fits}
 use borrow.Author.Needs.{needs}
-use Rattle.patterns.proofs.Numbers.{raised}
-use Rattle.patterns.proofs.pattern.Statement.{statement}
-use Rattle.patterns.proofs.pattern.Tie as tie
+use Rattle.counts.proofs.Modulo.{raised}
+use Rattle.counts.proofs.pattern.Statement.{statement}
+use Rattle.counts.proofs.pattern.Tie as tie
 
 cast-result : tie.Need-cast-result
 cast-result c = search (cast-fits, needs)
