@@ -3,8 +3,8 @@ use cursors::Cursor;
 use cursors::Expected;
 use legs::events::Switches;
 ghost use mathlib.Core.Path.{_≡_};
-ghost use Rattle.choices.specs.Choices.{atOf, choiceOf, standstillOf, limitSetOf, switchesOf};
-ghost use Rattle.choices.specs.Switches.{switchOk, shownOf};
+ghost use Rattle.choices.specs.Choices.{atRead, choiceRead, standstillRead, setRead, switchesRead};
+ghost use Rattle.choices.specs.Switches.{switchOk, switchesShown};
 
 // Values read, each of no meaning where the cursor is lost.
 pub struct SwitchesRead {
@@ -31,7 +31,7 @@ fn switch_ok(byte: u8, letter: u8) -> bool
 }
 
 fn four_switches(word: &[u8]) -> Shown
-    ensures { λ r. ⌜ r ≡ shownOf (now (word .entry)) ⌝ }
+    ensures { λ r. ⌜ r ≡ switchesShown (now (word .entry)) ⌝ }
 {
     if word.len() == 4 {
         let positive = word[0];
@@ -65,7 +65,7 @@ fn four_switches(word: &[u8]) -> Shown
 
 // The word `at`.
 pub fn at(text: &[u8], cursor: Cursor) -> Cursor
-    ensures { λ r. ⌜ r ≡ atOf (now (text .entry)) cursor ⌝ }
+    ensures { λ r. ⌜ r ≡ atRead (now (text .entry)) cursor ⌝ }
 {
     let word = tokens::next(text, cursor.at);
     let start = word.start;
@@ -81,7 +81,7 @@ fn choice(
     second: &[u8],
     expected: Expected,
 ) -> ChoiceRead
-    ensures { λ r. ⌜ r ≡ choiceOf (now (first .entry)) (now (second .entry)) expected (now (text .entry)) cursor ⌝ }
+    ensures { λ r. ⌜ r ≡ choiceRead (now (first .entry)) (now (second .entry)) expected (now (text .entry)) cursor ⌝ }
 {
     let word = tokens::next(text, cursor.at);
     let start = word.start;
@@ -95,20 +95,20 @@ fn choice(
 }
 
 pub fn standstill(text: &[u8], cursor: Cursor) -> ChoiceRead
-    ensures { λ r. ⌜ r ≡ standstillOf (now (text .entry)) cursor ⌝ }
+    ensures { λ r. ⌜ r ≡ standstillRead (now (text .entry)) cursor ⌝ }
 {
     choice(text, cursor, b"still", b"moving", Expected::Standstill)
 }
 
 pub fn limit_set(text: &[u8], cursor: Cursor) -> ChoiceRead
-    ensures { λ r. ⌜ r ≡ limitSetOf (now (text .entry)) cursor ⌝ }
+    ensures { λ r. ⌜ r ≡ setRead (now (text .entry)) cursor ⌝ }
 {
     choice(text, cursor, b"set1", b"set2", Expected::Set)
 }
 
 // POT, NOT, HOM and Z, each as its letter or `-`.
 pub fn switches(text: &[u8], cursor: Cursor) -> SwitchesRead
-    ensures { λ r. ⌜ r ≡ switchesOf (now (text .entry)) cursor ⌝ }
+    ensures { λ r. ⌜ r ≡ switchesRead (now (text .entry)) cursor ⌝ }
 {
     let word = tokens::next(text, cursor.at);
     let start = word.start;

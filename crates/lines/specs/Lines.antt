@@ -6,15 +6,15 @@ use mathlib.Core.List.{List}
 use lib.Dec.{eqb}
 use lib.ListN.{length, take}
 use Rattle.bytes.specs.Bytes.{indexOf}
-use Rattle.cursors.specs.Cursor.{startOf, acceptOf, refuseOf, endOf}
+use Rattle.cursors.specs.Cursor.{lineStart, acceptOf, refuseOf, lineEnd}
 use Rattle.cursors.specs.declared.Cursor.{Cursor}
 use Rattle.cursors.specs.declared.Expected.the-variants as expected
 use Rattle.spelling.specs.Spelling.{spelledOf}
-use Rattle.scanner.specs.Readings.{numberOf}
+use Rattle.scanner.specs.Readings.{numberAt}
 use Rattle.sheets.specs.Sheets.{sheetRead}
 use Rattle.tokens.specs.declared.Span.{Span}
 use Rattle.tokens.specs.Ascii.{ascii, sameOf}
-use Rattle.tokens.specs.Words.{nextOf, bytesOf}
+use Rattle.tokens.specs.Words.{nextWord, bytesOf}
 use Rattle.lines.specs.declared.Keyword.{Keyword}
 use Rattle.lines.specs.declared.Keyword.the-variants as keyword
 use Rattle.lines.specs.declared.Line.{Line}
@@ -33,12 +33,12 @@ abbrev pub unlessLost : Cursor → Line → Line
 unlessLost c l = cond (c .lost) (lostAt c) l
 
 abbrev pub freshLine : List ℕ → Cursor → Line
-freshLine text c = unlessLost (endOf text c) line.Fresh
+freshLine text c = unlessLost (lineEnd text c) line.Fresh
 
 abbrev pub wordLine : List ℕ → Cursor → Line
 wordLine text c =
-    let word = numberOf (spelledOf 16 8) expected.Digits text c in
-    unlessLost (endOf text (word .cursor)) (line.Word (word .value))
+    let word = numberAt (spelledOf 16 8) expected.Digits text c in
+    unlessLost (lineEnd text (word .cursor)) (line.Word (word .value))
 
 abbrev pub tickLine : List ℕ → Cursor → Line
 tickLine text c = unlessLost (tickRead text c .cursor) (line.Tick (tickRead text c .tick))
@@ -63,11 +63,11 @@ kindIn text keyword.Other next lost = lostAt lost
 abbrev pub kindWith : List ℕ → Span → Line
 kindWith text place =
     cond (eqb (place .start) (length text)) line.Blank
-    (kindIn text (openingOf (bytesOf text place)) (acceptOf startOf place) (refuseOf startOf place expected.Keyword))
+    (kindIn text (openingOf (bytesOf text place)) (acceptOf lineStart place) (refuseOf lineStart place expected.Keyword))
 
-unfoldable pub kindOf : List ℕ → Line
-kindOf text = kindWith text (nextOf text 0)
+unfoldable pub contentOf : List ℕ → Line
+contentOf text = kindWith text (nextWord text 0)
 
 -- "Everything from the first `#` on is a comment and is ignored"
 unfoldable pub lineOf : List ℕ → Line
-lineOf bs = kindOf (take (indexOf 35 bs) bs)
+lineOf bs = contentOf (take (indexOf 35 bs) bs)

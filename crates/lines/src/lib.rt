@@ -6,7 +6,7 @@ use cursors::Expected;
 use sheets::Writing;
 use ticks::Tick;
 ghost use mathlib.Core.Path.{_≡_};
-ghost use Rattle.lines.specs.Lines.{columnOf, lostAt, freshLine, wordLine, tickLine, sheetLine, openingOf, kindOf, lineOf};
+ghost use Rattle.lines.specs.Lines.{columnOf, lostAt, freshLine, wordLine, tickLine, sheetLine, openingOf, contentOf, lineOf};
 
 // A line that cannot be read: the column, from 1, and what was expected there.
 pub struct Trouble {
@@ -117,7 +117,7 @@ fn opening(word: &[u8]) -> Keyword
 
 // A text, its comment left out: its first word says what kind of line it is.
 fn kind(text: &[u8]) -> Line
-    ensures { λ r. ⌜ r ≡ kindOf (now (text .entry)) ⌝ }
+    ensures { λ r. ⌜ r ≡ contentOf (now (text .entry)) ⌝ }
 {
     let word = tokens::next(text, 0);
     let start = word.start;

@@ -6,11 +6,11 @@ use mathlib.Core.List.{List}
 use lib.IntN.{ℤ}
 use Rattle.commands.specs.declared.Command.{Command}
 use Rattle.commands.specs.declared.Command.the-variants as command
-use Rattle.cursors.specs.Cursor.{acceptOf, refuseOf, placeOf}
+use Rattle.cursors.specs.Cursor.{acceptOf, refuseOf, spanAt}
 use Rattle.cursors.specs.declared.Cursor.{Cursor}
 use Rattle.cursors.specs.declared.Expected.the-variants as expected
-use Rattle.numerals.specs.Signs.{signedOf}
-use Rattle.scanner.specs.Readings.{wholeOf, floatAt}
+use Rattle.numerals.specs.Signs.{signedWhole}
+use Rattle.scanner.specs.Readings.{wholeAt, floatAt}
 use Rattle.tokens.specs.declared.Span.{Span}
 use Rattle.tokens.specs.Ascii.{ascii, sameOf}
 use Rattle.tokens.specs.Words.{bytesOf}
@@ -18,8 +18,8 @@ use Rattle.orders.specs.declared.CommandRead.{CommandRead}
 use Rattle.orders.specs.declared.Name.{Name}
 use Rattle.orders.specs.declared.Name.the-variants as name
 
-unfoldable pub hybridOf : List ℕ → Cursor → CommandRead
-hybridOf text c =
+unfoldable pub hybridRead : List ℕ → Cursor → CommandRead
+hybridRead text c =
     let kp = floatAt text c in
     let kd = floatAt text (kp .cursor) in
     let pd = floatAt text (kd .cursor) in
@@ -33,15 +33,15 @@ hybridOf text c =
     }
 
 -- a command of one torque request
-abbrev pub requestOf : (ℤ → Command) → List ℕ → Cursor → CommandRead
-requestOf make text c =
-    let request = wholeOf (signedOf (2 ^ 15)) text c in
+abbrev pub requestRead : (ℤ → Command) → List ℕ → Cursor → CommandRead
+requestRead make text c =
+    let request = wholeAt (signedWhole (2 ^ 15)) text c in
     record { command = make (request .value); cursor = request .cursor }
 
-abbrev pub positionOf : List ℕ → Cursor → CommandRead
-positionOf text c =
-    let goal = wholeOf (signedOf (2 ^ 31)) text c in
-    let request = wholeOf (signedOf (2 ^ 15)) text (goal .cursor) in
+abbrev pub positionRead : List ℕ → Cursor → CommandRead
+positionRead text c =
+    let goal = wholeAt (signedWhole (2 ^ 31)) text c in
+    let request = wholeAt (signedWhole (2 ^ 15)) text (goal .cursor) in
     record { command = command.Position (goal .value) (request .value); cursor = request .cursor }
 
 abbrev pub namedOf : List ℕ → Name
@@ -54,15 +54,15 @@ namedOf word =
 
 -- a command by its name; `next` is the cursor past the name, `lost` the cursor at it
 abbrev pub commandIn : List ℕ → Name → Cursor → Cursor → CommandRead
-commandIn text name.Hybrid next lost = hybridOf text next
-commandIn text name.Homing next lost = requestOf command.Homing text next
-commandIn text name.Position next lost = positionOf text next
-commandIn text name.Torque next lost = requestOf command.Torque text next
+commandIn text name.Hybrid next lost = hybridRead text next
+commandIn text name.Homing next lost = requestRead command.Homing text next
+commandIn text name.Position next lost = positionRead text next
+commandIn text name.Torque next lost = requestRead command.Torque text next
 commandIn text name.Rest next lost = record { command = command.Rest; cursor = next }
 commandIn text name.Other next lost = record { command = command.Rest; cursor = lost }
 
 abbrev pub commandWith : List ℕ → Cursor → Span → CommandRead
 commandWith text c place = commandIn text (namedOf (bytesOf text place)) (acceptOf c place) (refuseOf c place expected.Command)
 
-unfoldable pub commandOf : List ℕ → Cursor → CommandRead
-commandOf text c = commandWith text c (placeOf text c)
+unfoldable pub commandRead : List ℕ → Cursor → CommandRead
+commandRead text c = commandWith text c (spanAt text c)

@@ -4,7 +4,7 @@ use cursors::Cursor;
 use cursors::Expected;
 use hybrid::Hybrid;
 ghost use mathlib.Core.Path.{_≡_};
-ghost use Rattle.orders.specs.Orders.{hybridOf, requestOf, positionOf, namedOf, commandOf};
+ghost use Rattle.orders.specs.Orders.{hybridRead, requestRead, positionRead, namedOf, commandRead};
 
 enum Name {
     Hybrid,
@@ -22,7 +22,7 @@ pub struct CommandRead {
 
 // KP KD PD VD T P V.
 fn hybrid(text: &[u8], cursor: Cursor) -> CommandRead
-    ensures { λ r. ⌜ r ≡ hybridOf (now (text .entry)) cursor ⌝ }
+    ensures { λ r. ⌜ r ≡ hybridRead (now (text .entry)) cursor ⌝ }
 {
     let kp = scanner::float(text, cursor);
     let cursor = kp.cursor;
@@ -53,7 +53,7 @@ fn hybrid(text: &[u8], cursor: Cursor) -> CommandRead
 }
 
 fn homing(text: &[u8], cursor: Cursor) -> CommandRead
-    ensures { λ r. ⌜ r ≡ requestOf Command.Homing (now (text .entry)) cursor ⌝ }
+    ensures { λ r. ⌜ r ≡ requestRead Command.Homing (now (text .entry)) cursor ⌝ }
 {
     let request = scanner::whole16(text, cursor);
     let cursor = request.cursor;
@@ -64,7 +64,7 @@ fn homing(text: &[u8], cursor: Cursor) -> CommandRead
 }
 
 fn position(text: &[u8], cursor: Cursor) -> CommandRead
-    ensures { λ r. ⌜ r ≡ positionOf (now (text .entry)) cursor ⌝ }
+    ensures { λ r. ⌜ r ≡ positionRead (now (text .entry)) cursor ⌝ }
 {
     let goal = scanner::whole32(text, cursor);
     let cursor = goal.cursor;
@@ -77,7 +77,7 @@ fn position(text: &[u8], cursor: Cursor) -> CommandRead
 }
 
 fn torque(text: &[u8], cursor: Cursor) -> CommandRead
-    ensures { λ r. ⌜ r ≡ requestOf Command.Torque (now (text .entry)) cursor ⌝ }
+    ensures { λ r. ⌜ r ≡ requestRead Command.Torque (now (text .entry)) cursor ⌝ }
 {
     let request = scanner::whole16(text, cursor);
     let cursor = request.cursor;
@@ -106,7 +106,7 @@ fn named(word: &[u8]) -> Name
 }
 
 pub fn command(text: &[u8], cursor: Cursor) -> CommandRead
-    ensures { λ r. ⌜ r ≡ commandOf (now (text .entry)) cursor ⌝ }
+    ensures { λ r. ⌜ r ≡ commandRead (now (text .entry)) cursor ⌝ }
 {
     let word = tokens::next(text, cursor.at);
     let start = word.start;

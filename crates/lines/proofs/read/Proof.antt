@@ -3,7 +3,7 @@
 use mathlib.Core.Path.{sym, ap, _∙_}
 use lib.ListN.{take}
 use lib.Seq.{length-take-le}
-use Rattle.lines.specs.Lines.{kindOf, lineOf}
+use Rattle.lines.specs.Lines.{contentOf, lineOf}
 use borrow.Author.Needs.{needs}
 use Rattle.lines.proofs.read.Statement.{statement}
 use Rattle.lines.proofs.read.Tie as tie
@@ -19,7 +19,7 @@ kind-requires c κs = search needs
 
 returns : tie.Need-returns
 unfolding lineOf
-returns c = c .kind .ensures ∙ ap (λ k. kindOf (take k (c .before .before .before .before .args .line .now))) (c .before .before .find .ensures .0)
+returns c = c .kind .ensures ∙ ap (λ k. contentOf (take k (c .before .before .before .before .args .line .now))) (c .before .before .find .ensures .0)
 
 pub read-spec : {M : Type 1} → statement M
 read-spec = tie.close (tie.spec find-requires slice-aggregate-kind kind-requires returns)

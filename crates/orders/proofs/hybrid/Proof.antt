@@ -1,6 +1,6 @@
 -- `orders::hybrid` meets its contract: seven floats, one after the other.
 -- Assumes nothing.
-use Rattle.orders.specs.Orders.{hybridOf}
+use Rattle.orders.specs.Orders.{hybridRead}
 use borrow.Author.Needs.{needs}
 use Rattle.orders.proofs.hybrid.Statement.{statement}
 use Rattle.orders.proofs.hybrid.Tie as tie
@@ -27,7 +27,7 @@ float-requires-7 : tie.Need-float-requires-7
 float-requires-7 c κs = search needs
 
 returns : tie.Need-returns
-unfolding hybridOf
+unfolding hybridRead
 returns c = rw (c .before .float7 .ensures, c .before .before .before .float6 .ensures, c .before .before .before .before .before .float5 .ensures, c .before .before .before .before .before .before .before .float4 .ensures, c .before .before .before .before .before .before .before .before .before .float3 .ensures, c .before .before .before .before .before .before .before .before .before .before .before .float2 .ensures, c .before .before .before .before .before .before .before .before .before .before .before .before .before .float .ensures)
 
 pub hybrid-spec : {M : Type 1} → statement M
