@@ -13,7 +13,7 @@ use Rattle.tokens.specs.Ascii.{sameOf}
 use Rattle.keywords.specs.Keywords.{wordsListed, whichOf}
 
 no-lf : (bs : List ℕ) → length bs ≤ indexOf 10 bs → wordsListed bs ≡ []
-unfolding indexOf indexAfter wordsListed
+unfolding indexOf indexAfter
 no-lf [] h = refl
 no-lf (b ∷ bs) h = go (eqb b 10) refl (no-lf bs)
   where
@@ -25,7 +25,7 @@ abbrev Cut : List ℕ → Type 0
 Cut bs = indexOf 10 bs < length bs → wordsListed bs ≡ take (indexOf 10 bs) bs ∷ wordsListed (drop (suc (indexOf 10 bs)) bs)
 
 first-cut : (bs : List ℕ) → Cut bs
-unfolding indexOf indexAfter wordsListed
+unfolding indexOf indexAfter
 first-cut [] h = absurd (omega (arith, h))
 first-cut (b ∷ bs) h = go (eqb b 10) refl (first-cut bs) h
   where

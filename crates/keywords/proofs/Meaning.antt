@@ -2,14 +2,14 @@
 -- Assumes nothing.
 use Prim.Native.Nat.{ℕ, zero, suc, _≤_, _<_}
 use mathlib.Core.Bool.{Bool, true, false}
-use mathlib.Core.List.{List, [], _∷_, map}
+use mathlib.Core.List.{List, [], _∷_}
 use mathlib.Core.Path.{_≡_, refl, sym, ap, _∙_}
 use borrow.Author.Tests.{eqb-true, eq-eqb}
 use native.Mathlib.Omega.{arith}
 use lib.Dec.{eqb}
 use lib.ListN.{length, getD}
 use Rattle.tokens.specs.Ascii.{sameOf}
-use Rattle.keywords.specs.Keywords.{whichOf, meaningOf}
+use Rattle.keywords.specs.Keywords.{whichOf}
 
 pub at-most : (word : List ℕ) (ws : List (List ℕ)) → whichOf word ws ≤ length ws
 unfolding whichOf
@@ -63,17 +63,3 @@ no-earlier word (w ∷ ws) n h e = go (sameOf word w) refl (no-earlier word ws) 
     go true s rest n h e = let k = rw s at h in omega (arith, k)
     go false s rest zero h e = clash (sym s ∙ ap (sameOf word) e ∙ same-refl word)
     go false s rest (suc n) h e = let k = rw s at h in rest n (omega (arith, k)) e
-
-module _ {A : Type 0} (word : List ℕ) (none : A) where
-  abbrev Numbered : List (List ℕ × A) → Type 0
-  Numbered rows = meaningOf word rows none ≡ getD (map (λ row. row .1) rows) (whichOf word (map (λ row. row .0) rows)) none
-
-  -- a table's row is found by its word's number
-  pub by-number : (rows : List (List ℕ × A)) → Numbered rows
-  unfolding whichOf meaningOf
-  by-number [] = refl
-  by-number (row ∷ rows) = go (sameOf word (row .0)) refl (by-number rows)
-    where
-      go : (t : Bool) → sameOf word (row .0) ≡ t → Numbered rows → Numbered (row ∷ rows)
-      go true e rest = rw e
-      go false e rest = rw e rest

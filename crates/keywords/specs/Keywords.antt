@@ -2,8 +2,9 @@
 -- Assumes nothing.
 use Prim.Native.Nat.{ℕ, suc}
 use mathlib.Core.Bool.{cond}
-use mathlib.Core.List.{List, [], _∷_}
+use mathlib.Core.List.{List, [], _∷_, map}
 use lib.Dec.{eqb}
+use lib.ListN.{getD}
 use Rattle.tokens.specs.Ascii.{sameOf}
 
 -- a byte in front of the first word, where there is one
@@ -12,7 +13,7 @@ inFront b [] = []
 inFront b (w ∷ ws) = (b ∷ w) ∷ ws
 
 -- the words of a text, each up to its LF; what no LF ends is none
-unfoldable pub wordsListed : List ℕ → List (List ℕ)
+abbrev pub wordsListed : List ℕ → List (List ℕ)
 wordsListed [] = []
 wordsListed (b ∷ bs) = cond (eqb b 10) ([] ∷ wordsListed bs) (inFront b (wordsListed bs))
 
@@ -21,7 +22,11 @@ unfoldable pub whichOf : List ℕ → List (List ℕ) → ℕ
 whichOf word [] = 0
 whichOf word (w ∷ ws) = cond (sameOf word w) 0 (suc (whichOf word ws))
 
--- what a table has in the row of a word, or `none`
-unfoldable pub meaningOf : {A : Type 0} → List ℕ → List (List ℕ × A) → A → A
-meaningOf word [] none = none
-meaningOf word (row ∷ rows) none = cond (sameOf word (row .0)) (row .1) (meaningOf word rows none)
+-- a table has a row a word: the word, and what it means
+module _ {A : Type 0} where
+  abbrev pub meanings : List (List ℕ × A) → List A
+  meanings rows = map (λ row. row .1) rows
+
+  -- what a word means by a table, or `none`
+  abbrev pub meaningOf : List ℕ → List (List ℕ × A) → A → A
+  meaningOf word rows none = getD (meanings rows) (whichOf word (map (λ row. row .0) rows)) none

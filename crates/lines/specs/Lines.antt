@@ -2,21 +2,20 @@
 -- Assumes nothing.
 use Prim.Native.Nat.{ℕ, _+_, min}
 use mathlib.Core.Bool.{cond}
-use mathlib.Core.List.{List}
+use mathlib.Core.List.{List, [], _∷_}
 use lib.Dec.{eqb}
 use lib.ListN.{length, take}
 use Rattle.bytes.specs.Bytes.{indexOf}
 use Rattle.cursors.specs.Cursor.{lineStart, acceptOf, refuseOf, lineEnd}
 use Rattle.cursors.specs.declared.Cursor.{Cursor}
 use Rattle.cursors.specs.declared.Expected.the-variants as expected
+use Rattle.keywords.specs.Keywords.{meaningOf}
 use Rattle.spelling.specs.Spelling.{spelledOf}
 use Rattle.scanner.specs.Readings.{numberAt}
 use Rattle.sheets.specs.Sheets.{sheetRead}
 use Rattle.tokens.specs.declared.Span.{Span}
-use Rattle.tokens.specs.Ascii.{ascii, sameOf}
+use Rattle.tokens.specs.Ascii.{ascii}
 use Rattle.tokens.specs.Words.{nextWord, bytesOf}
-use Rattle.lines.specs.declared.Keyword.{Keyword}
-use Rattle.lines.specs.declared.Keyword.the-variants as keyword
 use Rattle.lines.specs.declared.Line.{Line}
 use Rattle.lines.specs.declared.Line.the-variants as line
 use Rattle.lines.specs.Ticks.{tickRead}
@@ -46,27 +45,23 @@ tickLine text c = unlessLost (tickRead text c .cursor) (line.Tick (tickRead text
 abbrev pub sheetLine : List ℕ → Cursor → Line
 sheetLine text c = unlessLost (sheetRead text c .cursor) (line.Sheet (sheetRead text c .writing))
 
-abbrev pub openingOf : List ℕ → Keyword
-openingOf word =
-    cond (sameOf word (ascii "word")) keyword.Word
-    (cond (sameOf word (ascii "tick")) keyword.Tick
-    (cond (sameOf word (ascii "sheet")) keyword.Sheet (cond (sameOf word (ascii "fresh")) keyword.Fresh keyword.Other)))
+-- a line by its first word; `next` is the cursor past it
+abbrev pub openings : List ℕ → Cursor → List (List ℕ × Line)
+openings text next =
+    (ascii "word", wordLine text next)
+    ∷ (ascii "tick", tickLine text next)
+    ∷ (ascii "sheet", sheetLine text next)
+    ∷ (ascii "fresh", freshLine text next)
+    ∷ []
 
--- a line by its first word; `next` is the cursor past it, `lost` the cursor at it
-abbrev pub kindIn : List ℕ → Keyword → Cursor → Cursor → Line
-kindIn text keyword.Word next lost = wordLine text next
-kindIn text keyword.Tick next lost = tickLine text next
-kindIn text keyword.Sheet next lost = sheetLine text next
-kindIn text keyword.Fresh next lost = freshLine text next
-kindIn text keyword.Other next lost = lostAt lost
+abbrev pub worded : List ℕ → Span → Line
+worded text place = meaningOf (bytesOf text place) (openings text (acceptOf lineStart place)) (lostAt (refuseOf lineStart place expected.Keyword))
 
-abbrev pub kindWith : List ℕ → Span → Line
-kindWith text place =
-    cond (eqb (place .start) (length text)) line.Blank
-    (kindIn text (openingOf (bytesOf text place)) (acceptOf lineStart place) (refuseOf lineStart place expected.Keyword))
+abbrev pub contentWith : List ℕ → Span → Line
+contentWith text place = cond (eqb (place .start) (length text)) line.Blank (worded text place)
 
 unfoldable pub contentOf : List ℕ → Line
-contentOf text = kindWith text (nextWord text 0)
+contentOf text = contentWith text (nextWord text 0)
 
 -- "Everything from the first `#` on is a comment and is ignored"
 unfoldable pub lineOf : List ℕ → Line

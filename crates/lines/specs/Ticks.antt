@@ -1,7 +1,6 @@
 -- "tick HEX4 COMMAND at I32 SWITCHES STILL SET HEX8"
 -- Assumes nothing.
 use Prim.Native.Nat.{ℕ, _^_}
-use mathlib.Core.Bool.{Bool, true, false}
 use mathlib.Core.List.{List}
 use Rattle.numerals.specs.Signs.{signedWhole}
 use Rattle.spelling.specs.Spelling.{spelledOf}
@@ -11,13 +10,7 @@ use Rattle.choices.specs.Choices.{atRead, standstillRead, setRead, switchesRead
 use Rattle.cursors.specs.Cursor.{lineEnd}
 use Rattle.orders.specs.Orders.{commandRead}
 use Rattle.scanner.specs.Readings.{numberAt, wholeAt}
-use Rattle.torque.specs.declared.LimitSet.{LimitSet}
-use Rattle.torque.specs.declared.LimitSet.the-variants.{Set1, Set2}
 use Rattle.lines.specs.declared.tick_line.TickRead.{TickRead}
-
-abbrev pub set1If : Bool → LimitSet
-set1If true = Set1
-set1If false = Set2
 
 unfoldable pub tickRead : List ℕ → Cursor → TickRead
 tickRead text c =
@@ -36,7 +29,7 @@ tickRead text c =
             position = position .value;
             switches = switches .value;
             still = still .value;
-            set = set1If (set .value);
+            set = set .value;
             alarm = alarm .value;
           };
       cursor = lineEnd text (alarm .cursor);

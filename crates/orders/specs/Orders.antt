@@ -1,22 +1,20 @@
 -- "COMMAND: `hybrid KP KD PD VD T P V` (floats) · `homing I16` · `position I32 I16` (target, request) · `torque I16` · `rest`."
 -- Assumes nothing.
 use Prim.Native.Nat.{ℕ, _^_}
-use mathlib.Core.Bool.{cond}
-use mathlib.Core.List.{List}
+use mathlib.Core.List.{List, [], _∷_}
 use lib.IntN.{ℤ}
 use Rattle.commands.specs.declared.Command.{Command}
 use Rattle.commands.specs.declared.Command.the-variants as command
 use Rattle.cursors.specs.Cursor.{acceptOf, refuseOf, spanAt}
 use Rattle.cursors.specs.declared.Cursor.{Cursor}
 use Rattle.cursors.specs.declared.Expected.the-variants as expected
+use Rattle.keywords.specs.Keywords.{meaningOf}
 use Rattle.numerals.specs.Signs.{signedWhole}
 use Rattle.scanner.specs.Readings.{wholeAt, floatAt}
 use Rattle.tokens.specs.declared.Span.{Span}
-use Rattle.tokens.specs.Ascii.{ascii, sameOf}
+use Rattle.tokens.specs.Ascii.{ascii}
 use Rattle.tokens.specs.Words.{bytesOf}
 use Rattle.orders.specs.declared.CommandRead.{CommandRead}
-use Rattle.orders.specs.declared.Name.{Name}
-use Rattle.orders.specs.declared.Name.the-variants as name
 
 unfoldable pub hybridRead : List ℕ → Cursor → CommandRead
 hybridRead text c =
@@ -44,25 +42,22 @@ positionRead text c =
     let request = wholeAt (signedWhole (2 ^ 15)) text (goal .cursor) in
     record { command = command.Position (goal .value) (request .value); cursor = request .cursor }
 
-abbrev pub namedOf : List ℕ → Name
-namedOf word =
-    cond (sameOf word (ascii "hybrid")) name.Hybrid
-    (cond (sameOf word (ascii "homing")) name.Homing
-    (cond (sameOf word (ascii "position")) name.Position
-    (cond (sameOf word (ascii "torque")) name.Torque
-    (cond (sameOf word (ascii "rest")) name.Rest name.Other))))
+-- a command by its name; `next` is the cursor past the name
+abbrev pub commands : List ℕ → Cursor → List (List ℕ × CommandRead)
+commands text next =
+    (ascii "hybrid", hybridRead text next)
+    ∷ (ascii "homing", requestRead command.Homing text next)
+    ∷ (ascii "position", positionRead text next)
+    ∷ (ascii "torque", requestRead command.Torque text next)
+    ∷ (ascii "rest", record { command = command.Rest; cursor = next })
+    ∷ []
 
--- a command by its name; `next` is the cursor past the name, `lost` the cursor at it
-abbrev pub commandIn : List ℕ → Name → Cursor → Cursor → CommandRead
-commandIn text name.Hybrid next lost = hybridRead text next
-commandIn text name.Homing next lost = requestRead command.Homing text next
-commandIn text name.Position next lost = positionRead text next
-commandIn text name.Torque next lost = requestRead command.Torque text next
-commandIn text name.Rest next lost = record { command = command.Rest; cursor = next }
-commandIn text name.Other next lost = record { command = command.Rest; cursor = lost }
+-- no command; `lost` is the cursor at the word
+abbrev pub noCommand : Cursor → CommandRead
+noCommand lost = record { command = command.Rest; cursor = lost }
 
 abbrev pub commandWith : List ℕ → Cursor → Span → CommandRead
-commandWith text c place = commandIn text (namedOf (bytesOf text place)) (acceptOf c place) (refuseOf c place expected.Command)
+commandWith text c place = meaningOf (bytesOf text place) (commands text (acceptOf c place)) (noCommand (refuseOf c place expected.Command))
 
 unfoldable pub commandRead : List ℕ → Cursor → CommandRead
 commandRead text c = commandWith text c (spanAt text c)

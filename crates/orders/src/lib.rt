@@ -4,16 +4,9 @@ use cursors::Cursor;
 use cursors::Expected;
 use hybrid::Hybrid;
 ghost use mathlib.Core.Path.{_≡_};
-ghost use Rattle.orders.specs.Orders.{hybridRead, requestRead, positionRead, namedOf, commandRead};
-
-enum Name {
-    Hybrid,
-    Homing,
-    Position,
-    Torque,
-    Rest,
-    Other,
-}
+ghost use lib.ListN.{getD};
+ghost use Rattle.keywords.specs.Keywords.{meanings};
+ghost use Rattle.orders.specs.Orders.{hybridRead, requestRead, positionRead, commands, noCommand, commandRead};
 
 pub struct CommandRead {
     pub command: Command,
@@ -87,21 +80,23 @@ fn torque(text: &[u8], cursor: Cursor) -> CommandRead
     }
 }
 
-fn named(word: &[u8]) -> Name
-    ensures { λ r. ⌜ r ≡ namedOf (now (word .entry)) ⌝ }
+// A command by the number of its name; `next` stands past the name, `lost` at it.
+fn numbered(text: &[u8], number: usize, next: Cursor, lost: Cursor) -> CommandRead
+    ensures { λ r. ⌜ r ≡ getD (meanings (commands (now (text .entry)) next)) number (noCommand lost) ⌝ }
 {
-    if tokens::same(word, b"hybrid") {
-        Name::Hybrid
-    } else if tokens::same(word, b"homing") {
-        Name::Homing
-    } else if tokens::same(word, b"position") {
-        Name::Position
-    } else if tokens::same(word, b"torque") {
-        Name::Torque
-    } else if tokens::same(word, b"rest") {
-        Name::Rest
-    } else {
-        Name::Other
+    match number {
+        0 => hybrid(text, next),
+        1 => homing(text, next),
+        2 => position(text, next),
+        3 => torque(text, next),
+        4 => CommandRead {
+            command: Command::Rest,
+            cursor: next,
+        },
+        _ => CommandRead {
+            command: Command::Rest,
+            cursor: lost,
+        },
     }
 }
 
@@ -111,19 +106,11 @@ pub fn command(text: &[u8], cursor: Cursor) -> CommandRead
     let word = tokens::next(text, cursor.at);
     let start = word.start;
     let end = word.end;
+    let number = keywords::which(
+        &text[start..end],
+        b"hybrid\nhoming\nposition\ntorque\nrest\n",
+    );
     let next = cursor.accept(word);
-    match named(&text[start..end]) {
-        Name::Hybrid => hybrid(text, next),
-        Name::Homing => homing(text, next),
-        Name::Position => position(text, next),
-        Name::Torque => torque(text, next),
-        Name::Rest => CommandRead {
-            command: Command::Rest,
-            cursor: next,
-        },
-        Name::Other => CommandRead {
-            command: Command::Rest,
-            cursor: cursor.refuse(word, Expected::Command),
-        },
-    }
+    let lost = cursor.refuse(word, Expected::Command);
+    numbered(text, number, next, lost)
 }

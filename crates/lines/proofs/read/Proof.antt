@@ -11,15 +11,15 @@ use Rattle.lines.proofs.read.Tie as tie
 find-requires : tie.Need-find-requires
 find-requires c κs = search needs
 
-slice-aggregate-kind : tie.Need-slice-aggregate-kind
-slice-aggregate-kind c = sym (length-take-le (c .before .find .result) (c .before .before .before .args .line .now) (c .before .find .ensures .1))
+slice-aggregate-content : tie.Need-slice-aggregate-content
+slice-aggregate-content c = sym (length-take-le (c .before .find .result) (c .before .before .before .args .line .now) (c .before .find .ensures .1))
 
-kind-requires : tie.Need-kind-requires
-kind-requires c κs = search needs
+content-requires : tie.Need-content-requires
+content-requires c κs = search needs
 
 returns : tie.Need-returns
 unfolding lineOf
-returns c = c .kind .ensures ∙ ap (λ k. contentOf (take k (c .before .before .before .before .args .line .now))) (c .before .before .find .ensures .0)
+returns c = c .content .ensures ∙ ap (λ k. contentOf (take k (c .before .before .before .before .args .line .now))) (c .before .before .find .ensures .0)
 
 pub read-spec : {M : Type 1} → statement M
-read-spec = tie.close (tie.spec find-requires slice-aggregate-kind kind-requires returns)
+read-spec = tie.close (tie.spec find-requires slice-aggregate-content content-requires returns)
