@@ -1,4 +1,4 @@
--- "SWITCHES: four characters, `P` or `-` (POT), `N` or `-` (NOT), `H` or `-` (HOM), `Z` or `-` (Z)."
+-- "one word of four characters, POT, NOT, HOM and Z in this order: `P`, `N`, `H`, `Z`, or `-` where off"
 -- Assumes nothing.
 use Prim.Native.Nat.{ℕ}
 use mathlib.Core.Bool.{Bool, false, cond, _&&_, _||_}

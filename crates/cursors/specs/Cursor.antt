@@ -1,4 +1,4 @@
--- "COLUMN [..] is where the first word stands that is not accepted": a cursor that meets such a word stays at it.
+-- A cursor that meets a word that is not accepted stays at it: COLUMN "is where the first word stands that is not accepted".
 -- Assumes nothing.
 use Prim.Native.Nat.{ℕ}
 use mathlib.Core.Bool.{Bool, true, false, cond}

@@ -14,7 +14,7 @@ use Rattle.tokens.specs.declared.Span.{Span}
 use Rattle.tokens.specs.Words.{nextWord, bytesOf}
 use Rattle.lines.specs.declared.Line.{Line}
 use Rattle.lines.specs.declared.Line.the-variants as line
-use Rattle.lines.specs.Lines.{lostAt, openings, worded, contentWith, contentOf}
+use Rattle.lines.specs.Lines.{lostAt, openings, openedBy, contentWith, contentOf}
 
 -- no word is left
 empty : (text : List ℕ) (w : Span) → eqb (w .start) (length text) ≡ true → line.Blank ≡ contentWith text w
@@ -24,7 +24,7 @@ pub blank : (text : List ℕ) {w : Span} → eqb (w .start) (length text) ≡ tr
 unfolding contentOf
 blank text {w} e placed = empty text w e ∙ ap (contentWith text) placed
 
-opens : (text : List ℕ) (w : Span) → eqb (w .start) (length text) ≡ false → worded text w ≡ contentWith text w
+opens : (text : List ℕ) (w : Span) → eqb (w .start) (length text) ≡ false → openedBy text w ≡ contentWith text w
 opens text w e = rw e
 
 abbrev told : List ℕ → ℕ → Cursor → Cursor → Line

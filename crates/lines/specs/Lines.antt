@@ -1,4 +1,4 @@
--- What a line says: its first word tells its kind. "A line with no word gets no answer."
+-- What a line says: its first word tells which line it is, and one with no word is blank.
 -- Assumes nothing.
 use Prim.Native.Nat.{ℕ, _+_, min}
 use mathlib.Core.Bool.{cond}
@@ -54,15 +54,15 @@ openings text next =
     ∷ (ascii "fresh", freshLine text next)
     ∷ []
 
-abbrev pub worded : List ℕ → Span → Line
-worded text place = meaningOf (bytesOf text place) (openings text (acceptOf lineStart place)) (lostAt (refuseOf lineStart place expected.Keyword))
+abbrev pub openedBy : List ℕ → Span → Line
+openedBy text place = meaningOf (bytesOf text place) (openings text (acceptOf lineStart place)) (lostAt (refuseOf lineStart place expected.Keyword))
 
 abbrev pub contentWith : List ℕ → Span → Line
-contentWith text place = cond (eqb (place .start) (length text)) line.Blank (worded text place)
+contentWith text place = cond (eqb (place .start) (length text)) line.Blank (openedBy text place)
 
 unfoldable pub contentOf : List ℕ → Line
 contentOf text = contentWith text (nextWord text 0)
 
--- "Everything from the first `#` on is a comment and is ignored"
+-- "From the first `#` on a line is comment."
 unfoldable pub lineOf : List ℕ → Line
 lineOf bs = contentOf (take (indexOf 35 bs) bs)

@@ -1,4 +1,4 @@
--- "COMMAND: `hybrid KP KD PD VD T P V` (floats) · `homing I16` · `position I32 I16` (target, request) · `torque I16` · `rest`."
+-- A tick's command: `hybrid` and the floats KP KD PD VD T P V, `homing I16`, `position I32 I16` (target, request), `torque I16` or `rest`.
 -- Assumes nothing.
 use Prim.Native.Nat.{ℕ, _^_}
 use mathlib.Core.List.{List, [], _∷_}

@@ -91,7 +91,7 @@ pub fn hexadecimal8(text: &[u8], cursor: Cursor) -> NumberRead
     )
 }
 
-// U32.
+// 1 to 10 decimal digits with no sign, below 2^32.
 pub fn unsigned(text: &[u8], cursor: Cursor) -> NumberRead
     ensures { λ r. ⌜ r ≡ numberAt (unsigned32Of) Expected.Whole (now (text .entry)) cursor ⌝ }
 {

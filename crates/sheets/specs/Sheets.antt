@@ -1,4 +1,4 @@
--- "sheet LENGTH METHOD FAST SLOW OFFSET NUM DEN LOWER UPPER MAX P1 N1 P2 N2 OPTION RATED"; "OFFSET, LOWER and UPPER are I32; the others U32"
+-- "sheet LENGTH METHOD FAST SLOW OFFSET NUM DEN LOWER UPPER MAX P1 N1 P2 N2 OPTION RATED"; "OFFSET, LOWER and UPPER are I32"
 -- Assumes nothing.
 use Prim.Native.Nat.{ℕ, _^_}
 use mathlib.Core.List.{List}

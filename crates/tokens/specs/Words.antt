@@ -1,4 +1,4 @@
--- "words separated by one or more spaces or tabs"
+-- "words between spaces or tabs"
 -- Assumes nothing.
 use Prim.Native.Nat.{ℕ, suc, _+_, _-_, _≤_, min}
 use mathlib.Core.Bool.{Bool, true, false, cond, not, _||_}

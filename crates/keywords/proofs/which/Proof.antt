@@ -1,7 +1,7 @@
 -- `keywords::which` meets its contract: what is passed and the number in the rest add up to the number.
 -- Assumes nothing.
 use Prim.Native.Nat.{_+_, _-_, _≤_}
-use mathlib.Core.Path.{_≡_, refl, sym, ap, _∙_}
+use mathlib.Core.Path.{_≡_, sym, _∙_}
 use native.Mathlib.Nat.{zero-add}
 use native.Mathlib.Omega.{arith}
 use lib.ListN.{length, drop}
@@ -10,10 +10,6 @@ use Rattle.keywords.proofs.Cuts.{none-left, here, not-here}
 use borrow.Author.Needs.{needs}
 use Rattle.keywords.proofs.which.Statement.{statement}
 use Rattle.keywords.proofs.which.Tie as tie
-use Rattle.keywords.proofs.which.Reads as reads
-use Rattle.keywords.proofs.which.Lts as lts
-use Rattle.bytes.proofs.scan.find.Reads as find-reads
-use Rattle.tokens.proofs.same.Reads as same-reads
 
 abbrev Inv-loop : tie.InvT-loop
 Inv-loop word list number₀ start₀ number start = (number ≤ start) × (start ≤ length list) × (whichOf word (wordsListed list) ≡ number + whichOf word (wordsListed (drop start list)))
