@@ -30,11 +30,11 @@ opens text w e = rw e
 abbrev told : List ℕ → ℕ → Cursor → Cursor → Line
 told text n next unread = getD (meanings (openings text next)) n (lostAt unread)
 
-pub says : (text : List ℕ) (w : Span) {n : ℕ} {c next unread : Cursor} {r : Line} → r ≡ told text n next unread
+pub says : (text : List ℕ) {w : Span} {n : ℕ} {c next unread : Cursor} {r : Line} → r ≡ told text n next unread
     → n ≡ whichOf (bytesOf text w) (map (λ row. row .0) (openings text next)) → next ≡ acceptOf c w → unread ≡ refuseOf c w expected.Keyword
     → c ≡ lineStart → eqb (w .start) (length text) ≡ false → w ≡ nextWord text 0 → r ≡ contentOf text
 unfolding contentOf
-says text w {n} {c} {next} {unread} said number accepted refused started left placed =
+says text {w} {n} {c} {next} {unread} said number accepted refused started left placed =
     let m = whichOf (bytesOf text w) (map (λ row. row .0) (openings text next)) in
     said
     ∙ ap (λ k. told text k next unread) number

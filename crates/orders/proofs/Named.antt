@@ -16,11 +16,11 @@ use Rattle.orders.specs.Orders.{commands, noCommand, commandWith, comman
 abbrev told : List ℕ → ℕ → Cursor → Cursor → CommandRead
 told text n next lost = getD (meanings (commands text next)) n (noCommand lost)
 
-pub named : (text : List ℕ) (c : Cursor) (w : Span) {n : ℕ} {next lost : Cursor} {r : CommandRead} → r ≡ told text n next lost
+pub named : (text : List ℕ) (c : Cursor) {w : Span} {n : ℕ} {next lost : Cursor} {r : CommandRead} → r ≡ told text n next lost
     → n ≡ whichOf (bytesOf text w) (map (λ row. row .0) (commands text next)) → next ≡ acceptOf c w → lost ≡ refuseOf c w Command
     → w ≡ nextWord text (c .at) → r ≡ commandRead text c
 unfolding commandRead
-named text c w {n} {next} {lost} says number accepted refused placed =
+named text c {w} {n} {next} {lost} says number accepted refused placed =
     let m = whichOf (bytesOf text w) (map (λ row. row .0) (commands text next)) in
     says
     ∙ ap (λ k. told text k next lost) number

@@ -44,7 +44,7 @@ returns-2 c =
     let w = c .before .before .before .before in
     let e = w .before .before .before in
     let n = e .before in
-    says (n .before .before .args .text .now) (n .next .result) (c .opened .ensures) (w .which .ensures) (c .before .before .accept .ensures) (c .before .refuse .ensures)
+    says (n .before .before .args .text .now) (c .opened .ensures) (w .which .ensures) (c .before .before .accept .ensures) (c .before .refuse .ensures)
     (c .before .before .before .start .ensures) (ne-eqb _ _ (e .if1 .left)) (n .next .ensures .0)
 
 pub content-spec : {M : Type 1} → statement M

@@ -36,7 +36,7 @@ returns : tie.Need-returns
 returns c =
     let w = c .before .before .before in
     let a = w .before .before .before .before .before .args in
-    named (a .text .now) (a .cursor) (w .before .before .before .next .result) (c .numbered .ensures) (w .which .ensures) (c .before .before .accept .ensures) (c .before .refuse .ensures) (w .before .before .before .next .ensures .0)
+    named (a .text .now) (a .cursor) (c .numbered .ensures) (w .which .ensures) (c .before .before .accept .ensures) (c .before .refuse .ensures) (w .before .before .before .next .ensures .0)
 
 pub command-spec : {M : Type 1} → statement M
 command-spec =

@@ -28,7 +28,15 @@ float-requires-7 c κs = search needs
 
 returns : tie.Need-returns
 unfolding hybridRead
-returns c = rw (c .before .float7 .ensures, c .before .before .before .float6 .ensures, c .before .before .before .before .before .float5 .ensures, c .before .before .before .before .before .before .before .float4 .ensures, c .before .before .before .before .before .before .before .before .before .float3 .ensures, c .before .before .before .before .before .before .before .before .before .before .before .float2 .ensures, c .before .before .before .before .before .before .before .before .before .before .before .before .before .float .ensures)
+returns c =
+    let v = c .before in
+    let p = v .before .before in
+    let t = p .before .before in
+    let vd = t .before .before in
+    let pd = vd .before .before in
+    let kd = pd .before .before in
+    let kp = kd .before .before in
+    rw (v .float7 .ensures, p .float6 .ensures, t .float5 .ensures, vd .float4 .ensures, pd .float3 .ensures, kd .float2 .ensures, kp .float .ensures)
 
 pub hybrid-spec : {M : Type 1} → statement M
 hybrid-spec =

@@ -27,7 +27,9 @@ whole-requires c κs = search needs
 
 returns : tie.Need-returns
 returns c =
-    whole-at (signedWhole (2 ^ 31)) (c .before .before .before .before .before .args .text .now) (c .before .before .before .before .before .args .cursor) (c .before .before .before .next .result) (c .before .whole32 .result) (c .whole .result) (c .whole .ensures) (c .before .whole32 .ensures) (c .before .before .before .next .ensures .0)
+    let a = c .before .before .before .before .before .args in
+    let w = c .before .before .before in
+    whole-at (signedWhole (2 ^ 31)) (a .text .now) (a .cursor) (c .whole .ensures) (c .before .whole32 .ensures) (w .next .ensures .0)
 
 pub whole32-spec : {M : Type 1} → statement M
 whole32-spec =
