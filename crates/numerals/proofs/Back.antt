@@ -13,9 +13,9 @@ use lib.ListN.{length, getD, length-append}
 use lib.Signed.{mag}
 use Rattle.spelling.specs.declared.Number.the-variants.{Value, Unreadable}
 use Rattle.numerals.specs.declared.Whole.the-variants as whole
-use Rattle.numerals.specs.Signs.{positiveOf, negativeOf, signedOf}
+use Rattle.numerals.specs.Signs.{unsignedWhole, negatedWhole, signedWhole}
 use Rattle.numerals.specs.Limits.{belowOf, unsigned32Of, lengthOf}
-use Rattle.spelling.specs.Spelling.{digitOf, spelledFrom, spelledOf, decimalOf}
+use Rattle.spelling.specs.Spelling.{digitValue, spelledFrom, spelledOf, decimalOf}
 use Rattle.numerals.specs.Writing.{glyph, hexadecimal, digits, decimal}
 use Rattle.numerals.specs.Writing.{whole as written}
 use Rattle.spelling.proofs.Digits.{numeral, capital}
@@ -30,30 +30,30 @@ glyph-below d h = rw (lt-ltb d 10 h)
 glyph-above : (d : ℕ) → 10 ≤ d → glyph d ≡ 55 + d
 glyph-above d h = rw (le-ltb d 10 h)
 
-digit-back : (d : ℕ) → d < 16 → digitOf (glyph d) ≡ d
+digit-back : (d : ℕ) → d < 16 → digitValue (glyph d) ≡ d
 digit-back d h = go (ltb d 10) refl
   where
-    go : (t : Bool) → ltb d 10 ≡ t → digitOf (glyph d) ≡ d
+    go : (t : Bool) → ltb d 10 ≡ t → digitValue (glyph d) ≡ d
     go true e =
         let l : d < 10 = ltb-true d 10 e in
-        ap digitOf (glyph-below d l) ∙ numeral (48 + d) (omega arith) (omega arith) ∙ omega arith
+        ap digitValue (glyph-below d l) ∙ numeral (48 + d) (omega arith) (omega arith) ∙ omega arith
     go false e =
         let l : 10 ≤ d = ltb-false d 10 e in
-        ap digitOf (glyph-above d l) ∙ capital (55 + d) (omega arith) (omega arith) ∙ omega arith
+        ap digitValue (glyph-above d l) ∙ capital (55 + d) (omega arith) (omega arith) ∙ omega arith
 
 -- ---- one digit more at the end
 
-spelled-more : (base v : ℕ) (xs : List ℕ) (b n : ℕ) → spelledFrom base v xs ≡ Value n → digitOf b < base
-    → spelledFrom base v (xs ++ (b ∷ [])) ≡ Value (n * base + digitOf b)
+spelled-more : (base v : ℕ) (xs : List ℕ) (b n : ℕ) → spelledFrom base v xs ≡ Value n → digitValue b < base
+    → spelledFrom base v (xs ++ (b ∷ [])) ≡ Value (n * base + digitValue b)
 unfolding spelledFrom
-spelled-more base v [] b n e h = rw (lt-ltb (digitOf b) base h) (let s : v ≡ n = cc in rw s)
-spelled-more base v (x ∷ xs) b n e h = go (ltb (digitOf x) base) (spelled-more base (v * base + digitOf x) xs b n) e
+spelled-more base v [] b n e h = rw (lt-ltb (digitValue b) base h) (let s : v ≡ n = cc in rw s)
+spelled-more base v (x ∷ xs) b n e h = go (ltb (digitValue x) base) (spelled-more base (v * base + digitValue x) xs b n) e
   where
     go : (t : Bool)
-        → (spelledFrom base (v * base + digitOf x) xs ≡ Value n → digitOf b < base
-        → spelledFrom base (v * base + digitOf x) (xs ++ (b ∷ [])) ≡ Value (n * base + digitOf b))
-        → cond t (spelledFrom base (v * base + digitOf x) xs) Unreadable ≡ Value n
-        → cond t (spelledFrom base (v * base + digitOf x) (xs ++ (b ∷ []))) Unreadable ≡ Value (n * base + digitOf b)
+        → (spelledFrom base (v * base + digitValue x) xs ≡ Value n → digitValue b < base
+        → spelledFrom base (v * base + digitValue x) (xs ++ (b ∷ [])) ≡ Value (n * base + digitValue b))
+        → cond t (spelledFrom base (v * base + digitValue x) xs) Unreadable ≡ Value n
+        → cond t (spelledFrom base (v * base + digitValue x) (xs ++ (b ∷ []))) Unreadable ≡ Value (n * base + digitValue b)
     go true f p = f p h
     go false f p = cc
 
@@ -62,7 +62,7 @@ last-back : (base n : ℕ) (xs : List ℕ) → 0 < base → base ≤ 16 → spel
     → spelledFrom base 0 (xs ++ (glyph (n % base) ∷ [])) ≡ Value n
 last-back base n xs p l e =
     let m : n % base < base = mod-lt n p in
-    let d : digitOf (glyph (n % base)) ≡ n % base = digit-back (n % base) (omega arith) in
+    let d : digitValue (glyph (n % base)) ≡ n % base = digit-back (n % base) (omega arith) in
     spelled-more base 0 xs (glyph (n % base)) (n / base) e (rw d m) ∙ ap Value (rw d (div-add-mod' n base))
 
 one-less : (base k n : ℕ) → 0 < base → n < base ^ suc k → n / base < base ^ k
@@ -120,7 +120,7 @@ digits-back (suc k) n h p = go (shape k n) (digits-back k (n / 10) (one-less 10 
   where
     go : Shape k n → (0 < k → spelledFrom 10 0 (digits k (n / 10)) ≡ Value (n / 10)) → spelledFrom 10 0 (digits (suc k) n) ≡ Value n
     go (single l e) f =
-        let d : digitOf (glyph n) ≡ n = digit-back n (omega arith) in
+        let d : digitValue (glyph n) ≡ n = digit-back n (omega arith) in
         rw e (spelled-more 10 0 [] (glyph n) 0 refl (rw d l) ∙ ap Value (rw d (omega arith)))
     go (several l e) f = rw e (last-back 10 n (digits k (n / 10)) (omega arith) (omega arith) (f (tenth k n h l)))
 
@@ -186,16 +186,16 @@ length-back n h = below-back 33 n h (omega arith)
 
 -- ---- signed numbers
 
-signed-back : (half : ℕ) (z : ℤ) → half ≤ 2 ^ 31 → mag z < half → signedOf half (written z) ≡ whole.Value z
+signed-back : (half : ℕ) (z : ℤ) → half ≤ 2 ^ 31 → mag z < half → signedWhole half (written z) ≡ whole.Value z
 signed-back half (pos n) l h =
     let p : 0 < length (digits 20 n) = digits-some 19 n in
     no-minus half (decimal n) p (λ e. omega (arith, digits-high 20 n p))
-    ∙ ap (positiveOf half) (decimal-back n (omega arith))
+    ∙ ap (unsignedWhole half) (decimal-back n (omega arith))
     ∙ rw (lt-ltb n half h)
-signed-back half (negsuc n) l h = ap (negativeOf half) (decimal-back (suc n) (omega arith)) ∙ rw (le-leb (suc n) half h)
+signed-back half (negsuc n) l h = ap (negatedWhole half) (decimal-back (suc n) (omega arith)) ∙ rw (le-leb (suc n) half h)
 
-pub whole16-back : (z : ℤ) → mag z < 2 ^ 15 → signedOf (2 ^ 15) (written z) ≡ whole.Value z
+pub whole16-back : (z : ℤ) → mag z < 2 ^ 15 → signedWhole (2 ^ 15) (written z) ≡ whole.Value z
 whole16-back z h = signed-back (2 ^ 15) z (omega arith) h
 
-pub whole32-back : (z : ℤ) → mag z < 2 ^ 31 → signedOf (2 ^ 31) (written z) ≡ whole.Value z
+pub whole32-back : (z : ℤ) → mag z < 2 ^ 31 → signedWhole (2 ^ 31) (written z) ≡ whole.Value z
 whole32-back z h = signed-back (2 ^ 31) z (omega arith) h

@@ -1,8 +1,8 @@
--- `tokens::is_kind` meets its contract.
+-- `tokens::blank_is` meets its contract.
 -- Assumes nothing.
 use borrow.Author.Needs.{needs}
-use Rattle.tokens.proofs.is_kind.Statement.{statement}
-use Rattle.tokens.proofs.is_kind.Tie as tie
+use Rattle.tokens.proofs.blank_is.Statement.{statement}
+use Rattle.tokens.proofs.blank_is.Tie as tie
 
 is-blank-requires : tie.Need-is-blank-requires
 is-blank-requires c κs = search needs
@@ -16,5 +16,5 @@ returns c = rw (c .before .if1 .taken, c .is-blank .ensures)
 returns-2 : tie.Need-returns-2
 returns-2 c = rw (c .before .if1 .left, c .is-blank2 .ensures)
 
-pub is-kind-spec : {M : Type 1} → statement M
-is-kind-spec = tie.close (tie.spec is-blank-requires is-blank-requires-2 returns returns-2)
+pub blank-is-spec : {M : Type 1} → statement M
+blank-is-spec = tie.close (tie.spec is-blank-requires is-blank-requires-2 returns returns-2)
