@@ -11,9 +11,10 @@ use lib.ListN.{length, take, drop, length-drop, drop-of-length-le}
 use lib.Seq.{take-nil, drop-drop}
 use Rattle.bytes.specs.Bytes.{indexOf, indexAfter}
 use Rattle.gather.specs.declared.Held.{Held}
+use Rattle.gather.specs.declared.Ended.{Ended}
 use Rattle.gather.specs.declared.Ended.the-variants.{Text, TooLong}
-use Rattle.gather.specs.Lines.{Holds, partOf, endsIn, nextOf as placeAfter, endedOf}
-use Rattle.gather.proofs.Ends.{text-held}
+use Rattle.gather.specs.Lines.{Holds, partOf, endsIn, pastLine, endedOf, endedIn}
+use Rattle.gather.proofs.Ends.{room-enough, text-held}
 use Rattle.lines.specs.Lines.{lineOf}
 use Rattle.complaints.specs.Texts.{longText}
 use Rattle.session.specs.declared.Session.{Session}
@@ -59,7 +60,7 @@ nothing-held line =
       bytes = sym (take-nil (length line));
     }
 
-module _ (chunk line line′ : List ℕ) (from next : ℕ) (c : Console) (held : Held) (st : Stream) (where-next : next ≡ placeAfter chunk from)
+module _ (chunk line line′ : List ℕ) (from next : ℕ) (c : Console) (held : Held) (st : Stream) (where-next : next ≡ pastLine chunk from)
     (holds : (bs : List ℕ) → Holds line (c .held) bs → Holds line′ held (bs ++ partOf chunk from)) (before : Stands line c st) where
   abbrev ys : List ℕ
   ys = drop from chunk
@@ -101,22 +102,24 @@ module _ (chunk line line′ : List ℕ) (from next : ℕ) (c : Console) (held :
       past : from + suc (indexOf 10 ys) ≡ next
       past = omega (arith, rw e at where-next)
 
--- a line that is held is answered as its bytes ask
-pub text-answered : (s : Conversation) (line : List ℕ) (h : Held) (bs : List ℕ) (n : ℕ) → 256 ≤ length line → Holds line h bs → endedOf bs ≡ Text n
-    → nextOf (counted s) (lineOf (take n line)) ≡ afterLine s bs
-text-answered s line h bs n r k e =
-    ap (λ (text : List ℕ). nextOf (counted s) (lineOf text)) (text-held line h bs n r k e) ∙ sym (ap (afterEnded s bs) e)
+-- a line that has ended, in a buffer with room for every line, is answered as its bytes ask
+module _ (s : Conversation) (line bs : List ℕ) (room : 256 ≤ length line) where
+  ended : {r : Ended} → endedIn (length line) bs ≡ r → endedOf bs ≡ r
+  ended e = sym (room-enough (length line) bs room) ∙ e
 
-pub text-printed : (s : Conversation) (line : List ℕ) (h : Held) (bs : List ℕ) (n : ℕ) → 256 ≤ length line → Holds line h bs → endedOf bs ≡ Text n
-    → textOf (counted s) (lineOf (take n line)) ≡ answerTo s bs
-text-printed s line h bs n r k e =
-    ap (λ (text : List ℕ). textOf (counted s) (lineOf text)) (text-held line h bs n r k e) ∙ sym (ap (answerEnded s bs) e)
+  pub text-answered : (h : Held) (n : ℕ) → Holds line h bs → endedIn (length line) bs ≡ Text n → nextOf (counted s) (lineOf (take n line)) ≡ afterLine s bs
+  text-answered h n k e =
+      ap (λ (text : List ℕ). nextOf (counted s) (lineOf text)) (text-held line h bs n room k (ended e)) ∙ sym (ap (afterEnded s bs) (ended e))
 
-pub long-printed : (s : Conversation) (bs : List ℕ) → endedOf bs ≡ TooLong → longText (counted s .lines) ≡ answerTo s bs
-long-printed s bs e = sym (ap (answerEnded s bs) e)
+  pub text-printed : (h : Held) (n : ℕ) → Holds line h bs → endedIn (length line) bs ≡ Text n → textOf (counted s) (lineOf (take n line)) ≡ answerTo s bs
+  text-printed h n k e =
+      ap (λ (text : List ℕ). textOf (counted s) (lineOf text)) (text-held line h bs n room k (ended e)) ∙ sym (ap (answerEnded s bs) (ended e))
 
-pub long-answered : (s : Conversation) (bs : List ℕ) → endedOf bs ≡ TooLong → counted s ≡ afterLine s bs
-long-answered s bs e = sym (ap (afterEnded s bs) e)
+  pub long-answered : endedIn (length line) bs ≡ TooLong → counted s ≡ afterLine s bs
+  long-answered e = sym (ap (afterEnded s bs) (ended e))
+
+  pub long-printed : endedIn (length line) bs ≡ TooLong → longText (counted s .lines) ≡ answerTo s bs
+  long-printed e = sym (ap (answerEnded s bs) (ended e))
 
 -- one step after another
 pub moved-on : {chunk line line′ : List ℕ} {from next after : ℕ} {c d : Console} {st : Stream} → (m : Moved chunk from next line c st)
