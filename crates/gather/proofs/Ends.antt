@@ -11,13 +11,13 @@ use lib.ListN.{length, take, getD}
 use lib.Seq.{take-all, take-take, getD-take}
 use Rattle.gather.specs.declared.Ended.the-variants.{Text, TooLong}
 use Rattle.gather.specs.declared.Held.{Held}
-use Rattle.gather.specs.Lines.{Holds, withoutCR, fittingOf, endedOf, endedIn, Inside}
+use Rattle.gather.specs.Lines.{Holds, withoutCR, fittingOf, endedOf, endedIn, InsideBuffer}
 
-inside-if : (t : Bool) (n room : ℕ) → n ≤ room → Inside (cond t (Text n) TooLong) room
+inside-if : (t : Bool) (n room : ℕ) → n ≤ room → InsideBuffer (cond t (Text n) TooLong) room
 inside-if true n room h = h
 inside-if false n room h = tt
 
-pub fitting-inside : (n room : ℕ) → n ≤ room → Inside (fittingOf n) room
+pub fitting-inside : (n room : ℕ) → n ≤ room → InsideBuffer (fittingOf n) room
 fitting-inside n room h = inside-if (ltb n 256) n room h
 
 at-least : (t : Bool) (n : ℕ) → n ≤ suc (cond t (n - 1) n)

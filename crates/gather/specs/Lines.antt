@@ -1,4 +1,4 @@
--- A line's bytes as they come, whatever the reads cut them into. "A line's length, without its end, is at most 255 bytes."
+-- A line's bytes as they come, whatever the reads cut them into. docs/LINES.md: "What is left, blanks and comment included, is at most 255 bytes."
 -- Assumes nothing.
 use Prim.Native.Nat.{ℕ, _+_, _-_, _≤_, min}
 use mathlib.Core.Bool.{Bool, cond}
@@ -45,6 +45,6 @@ abbrev pub endedIn : ℕ → List ℕ → Ended
 endedIn room bs = cond (ltb room (length bs)) TooLong (endedOf bs)
 
 -- a text lies in its buffer
-abbrev pub Inside : Ended → ℕ → Type 0
-Inside (Text n) room = n ≤ room
-Inside TooLong room = Unit {0}
+abbrev pub InsideBuffer : Ended → ℕ → Type 0
+InsideBuffer (Text n) room = n ≤ room
+InsideBuffer TooLong room = Unit {0}

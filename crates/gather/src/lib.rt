@@ -3,7 +3,7 @@ ghost use mathlib.Core.List.{List, _∷_, [], _++_};
 ghost use Prim.Native.Nat.{ℕ, _<_};
 ghost use mathlib.Core.Path.{_≡_};
 ghost use lib.ListN.{length};
-ghost use Rattle.gather.specs.Lines.{Holds, partOf, endsIn, pastLine, fittingOf, endedIn, Inside};
+ghost use Rattle.gather.specs.Lines.{Holds, partOf, endsIn, pastLine, fittingOf, endedIn, InsideBuffer};
 
 // How many bytes of a line are held, and whether there were more than there is room for.
 pub struct Held {
@@ -84,7 +84,7 @@ fn fitting(length: usize) -> Ended
 }
 
 pub fn end(line: &[u8], held: Held) -> Ended
-    ensures { λ r. ⌜ Inside r (length (now (line .entry))) ⌝ }
+    ensures { λ r. ⌜ InsideBuffer r (length (now (line .entry))) ⌝ }
     ensures { λ r. ⌜ ((bs : List ℕ) → Holds (now (line .entry)) held bs → r ≡ endedIn (length (now (line .entry))) bs) ⌝ }
 {
     let n = held.length;

@@ -21,7 +21,7 @@ use Rattle.sheets.specs.declared.Writing.{Writing}
 use Rattle.numerals.specs.Writing.{glyph, digits, hexadecimal, decimal, whole}
 use Rattle.tokens.specs.Ascii.{ascii}
 use Rattle.printer.specs.Texts.{tradeWord, wordText, motionText, tickText, wordsText}
-use Rattle.complaints.specs.Texts.{expectedText, placeText}
+use Rattle.complaints.specs.Texts.{expectedText, lineAndColumnText}
 use Rattle.cursors.specs.declared.Expected.{Expected}
 use Rattle.cursors.specs.declared.Expected.the-variants.{Keyword, Digits, Whole, Float, Command, At, Switches, Standstill, Set, End}
 use Rattle.lent.specs.Lent.{lentOf, writtenText}
@@ -126,8 +126,8 @@ sheet-short w =
     within (both (both (both (all (ascii "sheet ")) (decimal-short n)) (words-short ws)) (trade-short n))
     (omega (arith, kept (w .settings) (lentOf w), length-replicate {A = ℕ} (min (w .length) 32) 0xDEADBEEF))
 
-place-short : (line column : ℕ) → Short 52 (placeText line column)
-place-short line column =
+line-and-column-short : (line column : ℕ) → Short 52 (lineAndColumnText line column)
+line-and-column-short line column =
     within (both (both (all (ascii "unreadable ")) (decimal-short line)) (both (all (32 ∷ [])) (decimal-short column))) (omega arith)
 
 expected-short : (e : Expected) → Short 37 (expectedText e)
@@ -143,7 +143,7 @@ expected-short Set = is (omega arith)
 expected-short End = is (omega arith)
 
 pub long-fits : LongFits
-long-fits line = within {n = 512} (both (place-short line 256) (all (ascii " line too long\n"))) (omega arith) .short
+long-fits line = within {n = 512} (both (line-and-column-short line 256) (all (ascii " line too long\n"))) (omega arith) .short
 
 pub fits : Fits
 fits s Blank = omega arith
@@ -151,4 +151,4 @@ fits s Fresh = omega arith
 fits s (Word w) = word-short (verdictNumber (wordOf (s .axis) w .verdict)) .short
 fits s (Tick t) = tick-short (tickOf (s .axis) t .answer) .short
 fits s (Sheet w) = sheet-short w .short
-fits s (Unreadable t) = within {n = 512} (both (place-short (s .lines) (t .column)) (expected-short (t .expected))) (omega arith) .short
+fits s (Unreadable t) = within {n = 512} (both (line-and-column-short (s .lines) (t .column)) (expected-short (t .expected))) (omega arith) .short

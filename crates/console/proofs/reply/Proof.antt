@@ -4,7 +4,7 @@ use mathlib.Core.Path.{sym, subst, _∙_}
 use native.Mathlib.Omega.{arith}
 use lib.ListN.{length, take}
 use lib.Seq.{length-take-le}
-use Rattle.gather.specs.Lines.{Inside}
+use Rattle.gather.specs.Lines.{InsideBuffer}
 use Rattle.lines.specs.Lines.{lineOf}
 use Rattle.session.specs.Answering.{meant, counted}
 use Rattle.session.proofs.Fits.{fits, long-fits}
@@ -24,7 +24,7 @@ slice-aggregate-line : tie.Need-slice-aggregate-line
 slice-aggregate-line c =
     let n = c .before .before .n .given in
     let line = c .before .before .before .before .before .before .before .args .line .now in
-    sym (length-take-le (n .0 .0) line (subst (λ r. Inside r (length line)) (n .1) (c .before .before .before .before .end .ensures .0)))
+    sym (length-take-le (n .0 .0) line (subst (λ r. InsideBuffer r (length line)) (n .1) (c .before .before .before .before .end .ensures .0)))
 
 line-requires : tie.Need-line-requires
 line-requires c κs = search needs

@@ -4,7 +4,7 @@ use Prim.Native.Nat.{_-_}
 use mathlib.Core.Path.{sym, subst, _∙_}
 use native.Mathlib.Omega.{arith}
 use lib.ListN.{length}
-use Rattle.gather.specs.Lines.{Inside}
+use Rattle.gather.specs.Lines.{InsideBuffer}
 use Rattle.gather.proofs.Ends.{fitting-inside, over-long, in-room, none-held, cr-last, no-cr}
 use borrow.Author.Needs.{needs}
 use Rattle.gather.proofs.end.Statement.{statement}
@@ -36,7 +36,7 @@ returns-4 c =
     let a = c .before .before .before .before .before .before .before .args in
     let o = c .before .before .before .before .before .if1 .left in
     let e = c .fitting .ensures in (
-      subst (λ r. Inside r (length (a .line .now))) (sym e) (fitting-inside (a .held .length - 1) (length (a .line .now)) (omega arith)),
+      subst (λ r. InsideBuffer r (length (a .line .now))) (sym e) (fitting-inside (a .held .length - 1) (length (a .line .now)) (omega arith)),
       λ bs k. e ∙ cr-last (a .line .now) (a .held) bs o (omega arith) (c .before .if4 .taken) k ∙ in-room (a .line .now) (a .held) bs o k,
     )
 
@@ -48,7 +48,7 @@ returns-5 c =
     let a = c .before .before .before .before .before .before .before .args in
     let o = c .before .before .before .before .before .if1 .left in
     let e = c .fitting2 .ensures in (
-      subst (λ r. Inside r (length (a .line .now))) (sym e) (fitting-inside (a .held .length) (length (a .line .now)) (omega arith)),
+      subst (λ r. InsideBuffer r (length (a .line .now))) (sym e) (fitting-inside (a .held .length) (length (a .line .now)) (omega arith)),
       λ bs k. e ∙ no-cr (a .line .now) (a .held) bs o (omega arith) (c .before .if4 .left) k ∙ in-room (a .line .now) (a .held) bs o k,
     )
 
