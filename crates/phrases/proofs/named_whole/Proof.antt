@@ -1,4 +1,4 @@
--- `phrases::whole` meets its contract: the name, then the number.
+-- `phrases::named_whole` meets its contract: the name, then the number.
 -- Assumes nothing.
 use mathlib.Core.Path.{ap}
 use mir.Facts.{toZ-ofZ}
@@ -7,8 +7,8 @@ use mir.Val.{SFits}
 use Rattle.numerals.specs.Writing.{whole}
 use Rattle.page.proofs.Printing.{_⨾_, printed-as}
 use borrow.Author.Needs.{needs}
-use Rattle.phrases.proofs.whole.Statement.{statement}
-use Rattle.phrases.proofs.whole.Tie as tie
+use Rattle.phrases.proofs.named_whole.Statement.{statement}
+use Rattle.phrases.proofs.named_whole.Tie as tie
 
 text-requires : tie.Need-text-requires
 text-requires c κs = search needs
@@ -25,5 +25,5 @@ returns c =
     let n : SFits w32 (a .number) = search needs in
     c .before .before .before .before .before .before .text .ensures ⨾ printed-as (ap whole (toZ-ofZ n)) (c .before .before .whole .ensures)
 
-pub whole-spec : {M : Type 1} → statement M
-whole-spec = tie.close (tie.spec text-requires whole-requires same-length returns)
+pub named-whole-spec : {M : Type 1} → statement M
+named-whole-spec = tie.close (tie.spec text-requires whole-requires same-length returns)
