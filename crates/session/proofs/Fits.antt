@@ -16,7 +16,7 @@ use Rattle.settings.specs.Refusal.{verdictNumber}
 use Rattle.answers.specs.declared.Answer.{Answer}
 use Rattle.words.specs.Encode.{valuesOf, wordsOf}
 use Rattle.words.proofs.Words.{length-sealed}
-use Rattle.writer.specs.Write.{writeVerdict, leftBy, written}
+use Rattle.writer.specs.Write.{writeVerdict, bufferAfter, written}
 use Rattle.sheets.specs.declared.Writing.{Writing}
 use Rattle.numerals.specs.Writing.{glyph, digits, hexadecimal, decimal, whole}
 use Rattle.tokens.specs.Ascii.{ascii}
@@ -111,7 +111,7 @@ kept : (s : Settings) (buffer : List ℕ) → length (written s buffer) ≡ leng
 unfolding writeVerdict wordsOf valuesOf
 kept s buffer = go (ltb (length buffer) 15) refl
   where
-    filled : (v : Verdict) → 15 ≤ length buffer → length (leftBy v s buffer) ≡ length buffer
+    filled : (v : Verdict) → 15 ≤ length buffer → length (bufferAfter v s buffer) ≡ length buffer
     filled Accepted h = omega (arith, h, length-append (wordsOf s) (drop 15 buffer), length-sealed (valuesOf s), length-drop 15 buffer)
     filled (Refused r) h = refl
 
