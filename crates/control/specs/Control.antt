@@ -1,4 +1,4 @@
--- 01, "Drive state": the commands of a control word, and a bit that bitRises. "Other commands need bit 7 clear: bit 1 clear is disable
+-- 01, "Drive state": the commands of a control word, and a bit that rises. "Other commands need bit 7 clear: bit 1 clear is disable
 -- voltage; else bit 2 clear quick stop; else bit 0 clear shutdown; else bit 3 clear switch on; else enable."
 -- Assumes nothing.
 use Prim.Native.Nat.{ℕ}

@@ -75,7 +75,7 @@ quietOf FaultReaction c still option = FaultReaction
 quietOf Fault c still option = Fault
 
 -- "An alarm moves every state but the two fault states to Fault reaction. Fault reaction goes to Fault. Fault goes to Switch on disabled
--- when control bit 7 bitRises and no alarm is present."
+-- when control bit 7 rises and no alarm is present."
 abbrev pub settled : State → Bool → Bool → State → State
 settled FaultReaction alarm reset quiet = Fault
 settled Fault alarm reset quiet = cond (reset && not alarm) SwitchOnDisabled Fault

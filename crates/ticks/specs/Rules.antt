@@ -48,7 +48,7 @@ homingOn wanted mode state = isMode wanted Homing && matchedOf wanted mode && is
 abbrev pub homingIn : Tick → Mode → State → Bool
 homingIn t mode state = homingOn (modeOf (t .command)) mode state
 
--- "Homing starts when control bit 4 bitRises, homing is matched and the new state is Operation enabled."
+-- "Homing starts when control bit 4 rises, homing is matched and the new state is Operation enabled."
 abbrev pub startsIn : ℕ → Tick → Mode → State → Bool
 startsIn control t mode state = bitRises control (t .control) 4 && homingIn t mode state
 
