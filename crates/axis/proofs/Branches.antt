@@ -26,7 +26,7 @@ use Rattle.legs.specs.Found as found
 use Rattle.legs.specs.declared.events.Switches.{Switches}
 use Rattle.legs.specs.Events.{View, switchesIn}
 use Rattle.legs.specs.Places.{legAt}
-use Rattle.legs.specs.Digits.{legInDigit}
+use Rattle.legs.specs.Bytes.{legInByte}
 use Rattle.speed.specs.Speed.{foundSpeed, speedOf}
 use Rattle.torque.specs.Torque.{torqueOf}
 use Rattle.position.specs.declared.Followed.{Followed}
@@ -78,14 +78,14 @@ same-stand : {method method2 : ℕ} {phase phase2 : Phase} {halted halted2 : Boo
 same-stand e f g h = rw (← e, ← f, ← g) h
 
 module _ (l : List ℕ) (t : Tick) {method : ℕ} {r : Stand} (e : method ≡ settingsIn l .method) where
-  pub starts : {home halted : Bool} → let a = motionIn l in
-      bitRises (a .control) (t .control) 4 ≡ true → home ≡ t .switches .home → halted ≡ bitOf (t .control) 8
-      → Stands method (startOf method home) halted r → Stands (settingsIn l .method) (phaseBy (settingsIn l) a t true) (bitOf (t .control) 8) r
-  starts rising home halted =
+  pub starts : {s : Switches} {halted : Bool} → let a = motionIn l in
+      bitRises (a .control) (t .control) 4 ≡ true → s ≡ t .switches → halted ≡ bitOf (t .control) 8
+      → Stands method (startOf method s) halted r → Stands (settingsIn l .method) (phaseBy (settingsIn l) a t true) (bitOf (t .control) 8) r
+  starts rising switches halted =
       let a = motionIn l in
       let v = viewWith (a .switches) (a .position) t true in
       let start = ap (λ (b : Bool). phaseAfter (a .phase) (settingsIn l .method) (b && true) v) (sym rising) in
-      same-stand e (ap₂ startOf e home ∙ start) halted
+      same-stand e (ap₂ startOf e switches ∙ start) halted
 
   pub steps : {phase : Phase} {v : View} → let a = motionIn l in
       bitRises (a .control) (t .control) 4 ≡ false → phase ≡ a .phase
@@ -102,7 +102,7 @@ pub arrives : (l : List ℕ) (t : Tick) (m : List ℕ) (v : ℤ) (r : Stand) {x 
     let s = settingsIn l in
     Stands (s .method) (phaseBy s a t true) (bitOf (t .control) 8) r
     → bitRises (a .control) (t .control) 4 && true || not (homedIn (a .phase)) ≡ true
-    → x ≡ t .position → Moved l (arrived a (phaseOf (r .phase)) x) m → v ≡ foundSpeed s (legInDigit (r .leg)) → Homes l t true m v
+    → x ≡ t .position → Moved l (arrived a (phaseOf (r .phase)) x) m → v ≡ foundSpeed s (legInByte (r .leg)) → Homes l t true m v
 arrives l t m v r {x} stands fresh position moved speed =
     let s = settingsIn l in
     let a = motionIn l in

@@ -14,7 +14,7 @@ use torque::LimitSet;
 ghost use mathlib.Core.Path.{_≡_};
 ghost use mathlib.Core.Bool.{true};
 ghost use Rattle.commands.specs.Commands.{modeOf, wholeDemand};
-ghost use Rattle.legs.specs.Digits.{legInDigit};
+ghost use Rattle.legs.specs.Bytes.{legInByte};
 ghost use Rattle.legs.specs.Events.{viewOf};
 ghost use Rattle.homing.specs.Phase.{phaseOf};
 ghost use Rattle.homing.specs.Places.{stoppedOf};
@@ -93,7 +93,7 @@ fn seen(axis: &Lent, t: Tick, switches: u32) -> Seen
 }
 
 fn speed_in(axis: &Lent, leg: u32) -> i32
-    ensures { λ r. ⌜ r ≡ foundSpeed (settingsIn (now (axis .entry))) (legInDigit leg) ⌝ }
+    ensures { λ r. ⌜ r ≡ foundSpeed (settingsIn (now (axis .entry))) (legInByte leg) ⌝ }
 {
     speed::speed(cells::settings_in(axis), leg)
 }
@@ -111,7 +111,7 @@ fn put_stand(axis: &mut Lent, phase: u32, position: i32)
 // Returns the speed.
 fn settle(axis: &mut Lent, after: Stand, position: i32) -> i32
     ensures moved { λ _. ⌜ Moved (now (axis .entry)) (arrived (motionIn (now (axis .entry))) (phaseOf (after .phase)) position) (now (axis .exit)) ⌝ }
-    ensures speed { λ r. ⌜ r ≡ foundSpeed (settingsIn (now (axis .entry))) (legInDigit (after .leg)) ⌝ }
+    ensures speed { λ r. ⌜ r ≡ foundSpeed (settingsIn (now (axis .entry))) (legInByte (after .leg)) ⌝ }
 {
     put_stand(axis, after.phase, position);
     speed_in(axis, after.leg)
@@ -124,8 +124,7 @@ fn in_homing(axis: &mut Lent, t: Tick, switches: u32) -> i32
 {
     let method = cells::method(axis);
     if control::rising(cells::control(axis), t.control, 4) {
-        let home = events::home_on(switches);
-        let started = homing::start(method, home, counts::bit(t.control, 8));
+        let started = homing::start(method, switches, counts::bit(t.control, 8));
         return settle(axis, started, t.position);
     }
     let phase = cells::phase(axis);

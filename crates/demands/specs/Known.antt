@@ -21,10 +21,10 @@ use Rattle.ticks.specs.Rules.{modeAfter, stateAfter, startsIn, viewIn}
 use Rattle.demands.specs.Takeover.{completedBy}
 use Rattle.demands.specs.Events.{Event, word, tick}
 
--- the latest homing start since the last takeover: HOM in its tick, and what homing sees of each tick after it
+-- the latest homing start since the last takeover: the switches in its tick, and what homing sees of each tick after it
 pub data Since : Type 0 where
   never : Since
-  start : Bool → List View → Since
+  start : Switches → List View → Since
 
 pub record Known : Type 0 where
   -- the words so far, ticks aside
@@ -86,11 +86,11 @@ afterWord (Set s) k ws =
 -- one tick more after a start
 abbrev pub seen : Since → View → Since
 seen never v = never
-seen (start home views) v = start home (views ++ v ∷ [])
+seen (start s views) v = start s (views ++ v ∷ [])
 
 abbrev pub sinceAfter : Known → Tick → Mode → State → Since
 sinceAfter k t mode state =
-    cond (startsIn (k .control) t mode state) (start (t .switches .home) []) (seen (k .since) (viewIn (k .switches) (k .position) t mode state))
+    cond (startsIn (k .control) t mode state) (start (t .switches) []) (seen (k .since) (viewIn (k .switches) (k .position) t mode state))
 
 -- with no settings in force a tick is refused, and changes nothing
 abbrev pub afterTick : Active → Known → Tick → Known
@@ -122,7 +122,7 @@ known es = knownFrom atFirst es
 abbrev pub CompletesSince : Active → Since → Type 0
 CompletesSince Nothing since = ⊥
 CompletesSince (Set s) never = ⊥
-CompletesSince (Set s) (start home views) = CompletesPlan (planOf (s .method) home) views
+CompletesSince (Set s) (start switches views) = CompletesPlan (planOf (s .method) switches) views
 
 abbrev pub RouteCompleted : Known → Type 0
 RouteCompleted k = CompletesSince (k .settings) (k .since)

@@ -1,20 +1,21 @@
 -- What each arm of the code comes to: the definitions' tests, settled.
 -- Assumes nothing.
 use mathlib.Core.Path.{_≡_, refl, _∙_}
-use mathlib.Core.Bool.{Bool, true, false, not, cond}
+use mathlib.Core.Bool.{Bool, true, false, not, cond, true≢false, false≢true}
 use mathlib.Core.Option.{Option, none, some}
 use Prim.Native.Nat.{ℕ, _+_}
-use native.Mathlib.Omega.{arith}
 use borrow.Author.Tests.{eq-eqb, ne-eqb}
+use Rattle.ranges.specs.Range.{methodOk}
+use Rattle.legs.specs.declared.events.Switches.{Switches}
 use Rattle.legs.specs.Found.{Found, isLeg}
 use Rattle.legs.specs.Found as found
 use Rattle.legs.specs.Events.{View, eventCounts, limitCounts, foundCounts, foundLimitCounts}
 use Rattle.legs.specs.Routes.{Row, rowOf}
-use Rattle.legs.specs.Places.{homePlace, legAt}
+use Rattle.legs.specs.Places.{startPlace, legAt}
 use Rattle.homing.specs.Phase.{Phase, Idle, Running, Failed}
 use Rattle.homing.specs.Places.{entered, limitAt, legTick, runningOf, startIn, startOf}
 use Rattle.counts.specs.Between.{between}
-use Rattle.legs.proofs.Rows.{known, isRow, turn-rule, known-rule, unknown}
+use Rattle.legs.proofs.Rows.{isRow, turn-rule, method-rule}
 
 module _ (m p : ℕ) where
   -- a limit turns, comes in a later leg, or in a method with no route b
@@ -51,14 +52,18 @@ unfolding eventCounts limitCounts
 none-counts found.Nothing v h = (refl, refl)
 none-counts (found.Leg l) v h = (rw h, rw h)
 
-pub start-known : (m : ℕ) (home : Bool) → known m ≡ true → startOf m home ≡ entered m (cond home (homePlace m) 0)
+pub start-known : (m : ℕ) (s : Switches) → methodOk m ≡ true → startOf m s ≡ entered m (startPlace m s)
 unfolding startOf
-start-known m home k = go (rowOf m) (known-rule m ∙ k)
+start-known m s k = go (rowOf m) (method-rule m ∙ k)
   where
-    go : (o : Option Row) → isRow o ≡ true → startIn m home o ≡ entered m (cond home (homePlace m) 0)
-    go none e = let z : _≡_ {A = ℕ} 0 1 = cc in absurd (omega arith)
+    go : (o : Option Row) → isRow o ≡ true → startIn m s o ≡ entered m (startPlace m s)
+    go none e = absurd (false≢true e)
     go (some r) e = refl
 
-pub start-unknown : (m : ℕ) (home : Bool) → known m ≡ false → startOf m home ≡ Idle
+pub start-unknown : (m : ℕ) (s : Switches) → methodOk m ≡ false → startOf m s ≡ Idle
 unfolding startOf
-start-unknown m home k = rw (unknown m k)
+start-unknown m s k = go (rowOf m) (method-rule m ∙ k)
+  where
+    go : (o : Option Row) → isRow o ≡ false → startIn m s o ≡ Idle
+    go none e = refl
+    go (some r) e = absurd (true≢false e)

@@ -12,7 +12,7 @@ use Rattle.legs.specs.declared.events.Switches.{Switches}
 use Rattle.legs.specs.Events.{View, allOff, switchesIn, eventCounts, limitCounts}
 use Rattle.legs.specs.Routes.{rowOf, planOf}
 use Rattle.homing.specs.Complete.{CompletesPlan}
-use Rattle.legs.specs.Places.{legAt}
+use Rattle.legs.specs.Places.{skips, startPlace, legAt}
 use Rattle.homing.specs.Phase.{homedIn}
 use Rattle.homing.specs.Places.{entered, limitAt, runningOf, startOf, stepAll}
 use Rattle.homing.proofs.Simulation.{homing-iff}
@@ -62,10 +62,10 @@ abbrev watched : Example → List View
 watched e = views (e .position) (e .switches) (e .ticks)
 
 abbrev Completes : Example → Type 0
-Completes e = CompletesPlan (planOf (e .method) (e .switches .home)) (watched e)
+Completes e = CompletesPlan (planOf (e .method) (e .switches)) (watched e)
 
 abbrev homes : Example → Bool
-homes e = homedIn (stepAll (startOf (e .method) (e .switches .home)) (e .method) (watched e))
+homes e = homedIn (stepAll (startOf (e .method) (e .switches)) (e .method) (watched e))
 
 abbrev AllComplete : List Example → Type 0
 AllComplete [] = Unit
@@ -78,12 +78,12 @@ NoneCompletes (e ∷ es) = (Completes e → ⊥) × NoneCompletes es
 all-complete : (es : List Example) → map homes es ≡ map (λ e. true) es → AllComplete es
 all-complete [] q = tt
 all-complete (e ∷ es) q =
-    (homing-iff (e .method) (e .switches .home) (watched e) .0 (head-eq-of-cons-eq q), all-complete es (tail-eq-of-cons-eq q))
+    (homing-iff (e .method) (e .switches) (watched e) .0 (head-eq-of-cons-eq q), all-complete es (tail-eq-of-cons-eq q))
 
 none-completes : (es : List Example) → map homes es ≡ map (λ e. false) es → NoneCompletes es
 none-completes [] q = tt
 none-completes (e ∷ es) q = (
-  λ c. false≢true (sym (head-eq-of-cons-eq q) ∙ homing-iff (e .method) (e .switches .home) (watched e) .1 c),
+  λ c. false≢true (sym (head-eq-of-cons-eq q) ∙ homing-iff (e .method) (e .switches) (watched e) .1 c),
   none-completes es (tail-eq-of-cons-eq q),
 )
 
@@ -129,7 +129,7 @@ complete =
     ∷ []
 
 pub examples-complete : AllComplete complete
-unfolding rowOf legAt entered limitAt runningOf startOf eventCounts limitCounts wrapped modulo signed
+unfolding rowOf skips startPlace legAt entered limitAt runningOf startOf eventCounts limitCounts wrapped modulo signed
 examples-complete = all-complete complete refl
 
 abbrev incomplete : List Example
@@ -149,5 +149,5 @@ incomplete =
     ∷ []
 
 pub examples-miss : NoneCompletes incomplete
-unfolding rowOf legAt entered limitAt runningOf startOf eventCounts limitCounts wrapped modulo signed
+unfolding rowOf skips startPlace legAt entered limitAt runningOf startOf eventCounts limitCounts wrapped modulo signed
 examples-miss = none-completes incomplete refl

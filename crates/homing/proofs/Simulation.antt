@@ -1,26 +1,27 @@
 -- Homing by place is homing along the plan's legs: a place of a method's row stands for the legs from there on to the next empty place.
--- Only the first lemmas look at a row; the others hold of any.
+-- Only the tests of where the routes stand look at the table; all else holds of any.
 -- Assumes nothing.
-use mathlib.Core.Path.{_≡_, refl}
+use mathlib.Core.Path.{_≡_, refl, ap}
 use mathlib.Core.Logic.{_↔_}
 use mathlib.Core.Bool.{Bool, true, false, So, false≢true, cond, _&&_}
-use mathlib.Core.List.{List, [], _∷_}
+use mathlib.Core.List.{List, [], _∷_, nil≢cons, head-eq-of-cons-eq, tail-eq-of-cons-eq}
 use mathlib.Core.Option.{Option, none, some}
-use Prim.Native.Nat.{ℕ, _+_, _<_}
+use Prim.Native.Nat.{ℕ, zero, suc, _+_}
 use native.Mathlib.Omega.{arith}
-use lib.ListN.{length, getD}
 use borrow.Author.Tests.{ne-eqb}
+use Rattle.legs.specs.declared.events.Switches.{Switches}
 use Rattle.legs.specs.Legs.{Leg}
+use Rattle.legs.specs.Found.{Found, isLeg}
 use Rattle.legs.specs.Found as found
 use Rattle.legs.specs.Events.{View, eventCounts, limitCounts}
-use Rattle.legs.specs.Routes.{Row, table, rowOf, Plan, later, planFrom, planOf}
+use Rattle.legs.specs.Routes.{Row, table, rowOf, Plan, later, planBy, planIn, planOf}
 use Rattle.homing.specs.Complete.{CompletesPlan}
-use Rattle.homing.specs.Progress.{Progress, idle, failed, homed, running, begin, onLimit, advance, advanceAll, started, isHomed}
-use Rattle.legs.specs.Places.{slot, rest, placesOf, homePlace, legAt, hasTurn, turns}
+use Rattle.homing.specs.Progress.{Progress, idle, failed, homed, running, begin, onLimit, advance, advanceAll, begun, started, isHomed}
+use Rattle.legs.specs.Places.{rest, skipPlace, skips, startPlace, legAt, hasTurn, turns}
 use Rattle.homing.specs.Phase.{Phase, Idle, Running, Homed, Failed, homedIn}
 use Rattle.homing.specs.Places.{entered, limitAt, runningOf, startIn, startOf, stepOf, stepAll}
 use Rattle.homing.proofs.Completion.{homed-iff, idle-stays}
-use Rattle.legs.proofs.Rows.{Every, found-holds, row-roomy}
+use Rattle.legs.proofs.Rows.{found-same}
 
 -- method m's legs from a place on, up to an empty place, are these
 abbrev pub From : ℕ → ℕ → List Leg → Type 0
@@ -40,42 +41,52 @@ pub data Same (m : ℕ) : Phase → Progress → Type 0 where
   both-running : {i : ℕ} {l : Leg} {ls : List Leg} {t : Option (List Leg)} → legAt m i ≡ found.Leg l
       → From m (i + 1) ls → Turn m i t → Same m (Running i) (running l ls t)
 
--- four places hold a route of at most three legs
-holds : (m i : ℕ) (ls : List Leg) → length ls < 4
-    → legAt m i ≡ slot ls 0 → legAt m (i + 1) ≡ slot ls 1 → legAt m (i + 1 + 1) ≡ slot ls 2 → legAt m (i + 1 + 1 + 1) ≡ slot ls 3
-    → From m i ls
-holds m i [] h p q r s = p
-holds m i (x ∷ []) h p q r s = (p, q)
-holds m i (x ∷ y ∷ []) h p q r s = (p, (q, r))
-holds m i (x ∷ y ∷ z ∷ []) h p q r s = (p, (q, (r, s)))
-holds m i (x ∷ y ∷ z ∷ w ∷ ls) h p q r s = absurd (omega arith)
+-- the legs from a place on, up to an empty place and with it, among n places
+abbrev andOn : Found → List Found → List Found
+andOn (found.Leg l) fs = found.Leg l ∷ fs
+andOn found.Nothing fs = found.Nothing ∷ []
 
--- where each method of the table has its route c
-abbrev AtHome : ℕ → Row → Type 0
-AtHome m r = From m (homePlace m) (r .c) × Turn m (homePlace m) none
+abbrev upTo : ℕ → ℕ → ℕ → List Found
+upTo m i zero = []
+upTo m i (suc n) = andOn (legAt m i) (upTo m (i + 1) n)
 
-homes : Every AtHome table
-unfolding legAt limitAt rowOf
-homes = (
-  ((refl, refl), refl),
-  (((refl, (refl, refl)), refl), (((refl, (refl, refl)), refl), (((refl, refl), refl), (((refl, refl), refl), (((refl, (refl, refl)), refl), (((refl, (refl, refl)), refl), (((refl, refl), refl), (((refl, refl), refl), (((refl, refl), refl), ((refl, refl), tt)))))))))),
-)
+abbrev ending : List Leg → List Found
+ending [] = found.Nothing ∷ []
+ending (l ∷ ls) = found.Leg l ∷ ending ls
+
+from-legs : (m i n : ℕ) (ls : List Leg) → upTo m i n ≡ ending ls → From m i ls
+from-legs m i zero [] q = absurd (nil≢cons q)
+from-legs m i zero (l ∷ ls) q = absurd (nil≢cons q)
+from-legs m i (suc n) [] q = go (legAt m i) q
+  where
+    go : (f : Found) → andOn f (upTo m (i + 1) n) ≡ found.Nothing ∷ [] → f ≡ found.Nothing
+    go (found.Leg k) p = head-eq-of-cons-eq p
+    go found.Nothing p = refl
+from-legs m i (suc n) (l ∷ ls) q = go (legAt m i) (λ p. from-legs m (i + 1) n ls p) q
+  where
+    go : (f : Found) → (upTo m (i + 1) n ≡ ending ls → From m (i + 1) ls) → andOn f (upTo m (i + 1) n) ≡ found.Leg l ∷ ending ls
+        → (f ≡ found.Leg l) × From m (i + 1) ls
+    go (found.Leg k) later p = (head-eq-of-cons-eq p, later (tail-eq-of-cons-eq p))
+    go found.Nothing later p = absurd (false≢true (ap isLeg (head-eq-of-cons-eq p)))
 
 module _ (m : ℕ) (r : Row) (e : rowOf m ≡ some r) where
-  row-at : (i : ℕ) → legAt m i ≡ getD (placesOf r) i found.Nothing
-  unfolding legAt
-  row-at i = rw e
-
+  -- where the routes of each method stand: one computed test of the table each
   main-from : From m 0 (r .a)
-  main-from = holds m 0 (r .a) (row-roomy m r e .first) (row-at 0) (row-at 1) (row-at 2) (row-at 3)
+  unfolding rowOf legAt
+  main-from = from-legs m 0 4 (r .a) (found-same (λ n x. upTo n 0 4) (λ n x. ending (x .a)) m r table refl e)
 
   turn-from : From m 4 (rest (r .b))
-  turn-from = holds m 4 (rest (r .b)) (row-roomy m r e .turned) (row-at 4) (row-at 5) (row-at 6) (row-at 7)
+  unfolding rowOf legAt
+  turn-from = from-legs m 4 4 (rest (r .b)) (found-same (λ n x. upTo n 4 4) (λ n x. ending (rest (x .b))) m r table refl e)
 
-  -- route c stands in the row too, and no limit turns it
-  home-from : From m (homePlace m) (r .c) × Turn m (homePlace m) none
-  unfolding rowOf
-  home-from = found-holds AtHome m r table homes e
+  skip-from : From m (skipPlace m) (r .c)
+  unfolding rowOf legAt
+  skip-from = from-legs m (skipPlace m) 4 (r .c) (found-same (λ n x. upTo n (skipPlace n) 4) (λ n x. ending (x .c)) m r table refl e)
+
+  -- and no limit turns route c
+  skip-turn : Turn m (skipPlace m) none
+  unfolding rowOf limitAt
+  skip-turn = found-same (λ n x. limitAt n (skipPlace n)) (λ n x. Failed) m r table refl e
 
   turn-at : limitAt m 0 ≡ cond (turns (r .b) && true) (entered m 4) Failed
   unfolding limitAt
@@ -125,14 +136,17 @@ module _ (m : ℕ) where
   all-same s [] = s
   all-same s (v ∷ vs) = all-same (step-same s v) vs
 
-  pub start-same : (home : Bool) → Same m (startOf m home) (started (planOf m home))
-  unfolding startOf
-  start-same home = go home (rowOf m) refl
+  pub start-same : (s : Switches) → Same m (startOf m s) (started (planOf m s))
+  unfolding startOf startPlace skips
+  start-same s = go (rowOf m) refl
     where
-      go : (h : Bool) (o : Option Row) → rowOf m ≡ o → Same m (startIn m h o) (started (planFrom h o))
-      go h none e = both-idle
-      go true (some r) e = let f = home-from m r e in enter-same (homePlace m) (r .c) none (f .0) (f .1)
-      go false (some r) e = enter-same 0 (r .a) (later (r .b)) (main-from m r e) (turn-first m r e)
+      by : (r : Row) → rowOf m ≡ some r → (b : Bool) → Same m (entered m (cond b (skipPlace m) 0)) (begun (planBy b r))
+      by r e true = enter-same (skipPlace m) (r .c) none (skip-from m r e) (skip-turn m r e)
+      by r e false = enter-same 0 (r .a) (later (r .b)) (main-from m r e) (turn-first m r e)
+
+      go : (o : Option Row) → rowOf m ≡ o → Same m (startIn m s o) (started (planIn s o))
+      go none e = both-idle
+      go (some r) e = rw e (by r e (r .picks s))
 
 pub same-homed : {m : ℕ} {p : Phase} {q : Progress} → Same m p q → homedIn p ≡ isHomed q
 same-homed both-idle = refl
@@ -141,8 +155,8 @@ same-homed both-homed = refl
 same-homed (both-running e f u) = refl
 
 -- for every number of a method, homing is homed after a start and later ticks exactly when these complete a route that the start allows
-pub homing-iff : (m : ℕ) (home : Bool) (vs : List View) → So (homedIn (stepAll (startOf m home) m vs)) ↔ CompletesPlan (planOf m home) vs
-homing-iff m home vs = rw (same-homed (all-same m (start-same m home) vs)) (go (planOf m home))
+pub homing-iff : (m : ℕ) (s : Switches) (vs : List View) → So (homedIn (stepAll (startOf m s) m vs)) ↔ CompletesPlan (planOf m s) vs
+homing-iff m s vs = rw (same-homed (all-same m (start-same m s) vs)) (go (planOf m s))
   where
     go : (o : Option Plan) → So (isHomed (advanceAll (started o) vs)) ↔ CompletesPlan o vs
     go none = (λ h. false≢true (rw (idle-stays vs) at h), absurd)

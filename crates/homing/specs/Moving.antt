@@ -6,7 +6,7 @@ use mathlib.Core.Bool.{Bool, cond}
 use Rattle.legs.specs.Found.{Found}
 use Rattle.legs.specs.Found as found
 use Rattle.legs.specs.Places.{legAt}
-use Rattle.legs.specs.Digits.{legInDigit}
+use Rattle.legs.specs.Bytes.{legInByte}
 use Rattle.homing.specs.Phase.{Phase, Idle, Running, Homed, Failed, phaseOf}
 use Rattle.homing.specs.declared.Stand.{Stand}
 
@@ -24,4 +24,4 @@ movingLeg method phase halted = cond halted found.Nothing (runningLeg method pha
 -- homing stands in this phase, and the leg is the one that moves
 pub record Stands (method : ℕ) (after : Phase) (halted : Bool) (r : Stand) : Type 0 where
   pub phase : phaseOf (r .phase) ≡ after
-  pub leg : legInDigit (r .leg) ≡ movingLeg method after halted
+  pub leg : legInByte (r .leg) ≡ movingLeg method after halted

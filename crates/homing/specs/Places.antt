@@ -1,16 +1,17 @@
 -- Homing by place: of a running leg, homing holds its place in its method's row.
 -- Assumes nothing.
 use Prim.Native.Nat.{ℕ, _+_}
-use mathlib.Core.Bool.{Bool, cond, _&&_}
+use mathlib.Core.Bool.{cond, _&&_}
 use mathlib.Core.List.{List, [], _∷_}
 use mathlib.Core.Option.{Option, none, some}
 use lib.Dec.{eqb}
+use Rattle.legs.specs.declared.events.Switches.{Switches}
 use Rattle.legs.specs.Legs.{Leg}
 use Rattle.legs.specs.Found.{Found}
 use Rattle.legs.specs.Found as found
 use Rattle.legs.specs.Events.{View, eventCounts, limitCounts}
 use Rattle.legs.specs.Routes.{Row, rowOf}
-use Rattle.legs.specs.Places.{turnPlace, homePlace, legAt, hasTurn}
+use Rattle.legs.specs.Places.{turnPlace, startPlace, legAt, hasTurn}
 use Rattle.homing.specs.Phase.{Phase, Idle, Running, Homed, Failed}
 
 abbrev pub enteredAt : ℕ → Found → Phase
@@ -35,12 +36,12 @@ unfoldable pub runningOf : ℕ → ℕ → View → Phase
 runningOf method place v = legTick method place v (legAt method place)
 
 -- the start tick: the first place of a or c. A number that is no method makes homing idle.
-abbrev pub startIn : ℕ → Bool → Option Row → Phase
-startIn method home none = Idle
-startIn method home (some r) = entered method (cond home (homePlace method) 0)
+abbrev pub startIn : ℕ → Switches → Option Row → Phase
+startIn method s none = Idle
+startIn method s (some r) = entered method (startPlace method s)
 
-unfoldable pub startOf : ℕ → Bool → Phase
-startOf method home = startIn method home (rowOf method)
+unfoldable pub startOf : ℕ → Switches → Phase
+startOf method s = startIn method s (rowOf method)
 
 -- a later tick
 abbrev pub stepOf : Phase → ℕ → View → Phase

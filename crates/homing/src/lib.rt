@@ -2,9 +2,8 @@
 use legs::events;
 use legs::events::Seen;
 ghost use mathlib.Core.Path.{_≡_};
-ghost use mathlib.Core.Bool.{false, cond};
-ghost use Rattle.legs.specs.Events.{viewOf};
-ghost use Rattle.legs.specs.Places.{homePlace};
+ghost use mathlib.Core.Bool.{false};
+ghost use Rattle.legs.specs.Events.{switchesIn, viewOf};
 ghost use Rattle.homing.specs.Phase.{phaseOf, homedIn, runningIn, failedIn};
 ghost use Rattle.homing.specs.Places.{entered, limitAt, runningOf, startOf, stepOf, stoppedOf};
 ghost use Rattle.homing.specs.Moving.{Stands};
@@ -90,26 +89,18 @@ fn run(method: u32, place: u32, seen: Seen) -> Stand
     }
 }
 
-fn first_place(method: u32, home: bool) -> u32
-    ensures { λ r. ⌜ r ≡ cond home (homePlace method) 0 ⌝ }
+// Homing after its start tick, with this tick's switches, as bits; halted is its bit 8. A number that is no method makes homing idle.
+pub fn start(method: u32, switches: u32, halted: bool) -> Stand
+    ensures { λ r. ⌜ Stands method (startOf method (switchesIn switches)) halted r ⌝ }
 {
-    if home { legs::home_place(method) } else { 0 }
-}
-
-// Homing after its start tick; home is HOM in that tick, halted its bit 8. A number that is no method makes homing idle.
-pub fn start(method: u32, home: bool, halted: bool) -> Stand
-    ensures { λ r. ⌜ Stands method (startOf method home) halted r ⌝ }
-{
-    match method {
-        23..=30 | 33..=35 => {
-            let entered = enter(method, first_place(method, home));
-            if halted {
-                resting(entered.phase)
-            } else {
-                entered
-            }
-        }
-        _ => resting(IDLE),
+    if !ranges::method_ok(method) {
+        return resting(IDLE);
+    }
+    let entered = enter(method, legs::start_place(method, switches));
+    if halted {
+        resting(entered.phase)
+    } else {
+        entered
     }
 }
 

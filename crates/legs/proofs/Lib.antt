@@ -1,4 +1,4 @@
 pub mod Computed
 pub mod Rows
 pub mod Table
-pub mod Digit
+pub mod Byte

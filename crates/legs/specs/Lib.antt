@@ -3,4 +3,4 @@ pub mod Found
 pub mod Events
 pub mod Routes
 pub mod Places
-pub mod Digits
+pub mod Bytes

@@ -1,11 +1,13 @@
 -- A method's routes stand in one row of places; a place is a number.
 -- Assumes nothing.
-use Prim.Native.Nat.{ℕ, _-_, _%_}
-use mathlib.Core.Bool.{Bool, true, false, cond, _&&_}
+use Prim.Native.Nat.{ℕ}
+use mathlib.Core.Bool.{Bool, true, false, cond, _||_}
 use mathlib.Core.List.{List, [], _∷_, map}
 use mathlib.Core.Option.{Option, none, some}
-use lib.Dec.{leb, ltb}
+use lib.Dec.{leb}
 use lib.ListN.{getD}
+use Rattle.counts.specs.Between.{between}
+use Rattle.legs.specs.declared.events.Switches.{Switches}
 use Rattle.legs.specs.Legs.{Leg}
 use Rattle.legs.specs.Found.{Found}
 use Rattle.legs.specs.Found as found
@@ -30,10 +32,22 @@ placesOf r = four (r .a) (four (rest (r .b)) [])
 abbrev pub turnPlace : ℕ
 turnPlace = 4
 
--- the first place of route c, for a start on HOM. No place is its own: it is a from the second leg on in 23 and 24, b from the third on in
--- 25 and 26, in 27 to 30 likewise, and a itself in 33 to 35 (`homes` of homing, computed for every method).
-abbrev pub homePlace : ℕ → ℕ
-homePlace method = cond (leb 23 method && leb method 30) (cond (ltb ((method - 23) % 4) 2) 1 5) 0
+-- the first place of route c. No place is its own: it is b from the third leg on in 25, 26, 29 and 30, a from the second on in the other
+-- methods up to 30, and a itself in 33 to 35 (`skips` of homing, computed for every method).
+abbrev pub skipPlace : ℕ → ℕ
+skipPlace method = cond (between 25 26 method || between 29 30 method) 5 (cond (leb method 30) 1 0)
+
+-- whether the switches of a start pick route c
+abbrev pub skipsIn : Option Row → Switches → Bool
+skipsIn none s = false
+skipsIn (some r) s = r .picks s
+
+unfoldable pub skips : ℕ → Switches → Bool
+skips method s = skipsIn (rowOf method) s
+
+-- the place of a start
+unfoldable pub startPlace : ℕ → Switches → ℕ
+startPlace method s = cond (skips method s) (skipPlace method) 0
 
 abbrev pub legIn : Option Row → ℕ → Found
 legIn none place = found.Nothing

@@ -1,2 +1,2 @@
 pub mod Guard
-pub mod Digit
+pub mod Byte

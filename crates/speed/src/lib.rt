@@ -3,7 +3,7 @@ use settings::Settings;
 ghost use mathlib.Core.Path.{_≡_};
 ghost use mathlib.Core.Bool.{cond};
 ghost use Prim.Native.Nat.{_-_, _^_, min};
-ghost use Rattle.legs.specs.Digits.{legInDigit, forwardIn, fastIn};
+ghost use Rattle.legs.specs.Bytes.{legInByte, forwardIn, fastIn};
 ghost use Rattle.speed.specs.Speed.{signedOf, foundSpeed};
 
 // A speed is at most 2^28 - 1.
@@ -35,7 +35,7 @@ fn leg_speed(s: Settings, leg: u32) -> i32
 
 // The speed of a leg; where there is none, 0.
 pub fn speed(s: Settings, leg: u32) -> i32
-    ensures { λ r. ⌜ r ≡ foundSpeed s (legInDigit leg) ⌝ }
+    ensures { λ r. ⌜ r ≡ foundSpeed s (legInByte leg) ⌝ }
 {
     if legs::is_leg(leg) {
         leg_speed(s, leg)

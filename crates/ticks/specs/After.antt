@@ -29,7 +29,7 @@ newState s a t = stateAfter s (a .state) (a .control) t
 
 -- "The start tick … picks a or c by HOM in that tick and counts no event"; a later tick is a step
 abbrev pub phaseAfter : Phase → ℕ → Bool → View → Phase
-phaseAfter phase method starting v = cond starting (startOf method (v .now .home)) (stepOf phase method v)
+phaseAfter phase method starting v = cond starting (startOf method (v .now)) (stepOf phase method v)
 
 -- the same, of a motion; on: homing is matched and the new state is Operation enabled
 abbrev pub phaseBy : Settings → Motion → Tick → Bool → Phase

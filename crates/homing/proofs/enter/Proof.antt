@@ -6,8 +6,8 @@ use native.Mathlib.Omega.{arith}
 use Rattle.legs.specs.Found.{isLeg}
 use Rattle.legs.specs.Found as found
 use Rattle.legs.specs.Places.{legAt}
-use Rattle.legs.specs.Digits.{legInDigit}
-use Rattle.legs.proofs.Digit.{some-leg, no-leg}
+use Rattle.legs.specs.Bytes.{legInByte}
+use Rattle.legs.proofs.Byte.{some-leg, no-leg}
 use Rattle.legs.proofs.Table.{placed}
 use Rattle.homing.specs.Places.{entered}
 use Rattle.homing.proofs.Phases.{running-at}
@@ -45,7 +45,7 @@ returns-2 c =
     let i = c .before .before in
     let l = i .before in
     let x = l .before .args in
-    let f : legAt (x .method) (x .place) ≡ found.Nothing = sym (l .leg-at .ensures) ∙ no-leg (legInDigit (l .leg-at .result)) (sym (i .is-leg .ensures) ∙ c .before .if1 .left) in
+    let f : legAt (x .method) (x .place) ≡ found.Nothing = sym (l .leg-at .ensures) ∙ no-leg (legInByte (l .leg-at .result)) (sym (i .is-leg .ensures) ∙ c .before .if1 .left) in
     rw f (rests (x .method) 1 (c .resting .result) (c .resting .ensures .0) (c .resting .ensures .1) false (omega arith))
 
 pub enter-spec : {M : Type 1} → statement M

@@ -1,8 +1,8 @@
 -- `homing::stop` meets its contract: below 3 every clause of the definition leaves the phase, and from 3 on a leg runs.
 -- Assumes nothing.
 use mathlib.Core.Path.{_≡_, refl, sym, _∙_}
-use Rattle.legs.specs.Digits.{legInDigit}
-use Rattle.legs.proofs.Digit.{some-leg, no-leg}
+use Rattle.legs.specs.Bytes.{legInByte}
+use Rattle.legs.proofs.Byte.{some-leg, no-leg}
 use Rattle.homing.specs.Places.{stoppedOf}
 use Rattle.homing.proofs.Phases.{resting, running}
 use borrow.Author.Needs.{needs}
@@ -21,13 +21,13 @@ is-leg-requires c κs = search needs
 returns-2 : tie.Need-returns-2
 returns-2 c =
     let l = c .before .before in
-    let leg = some-leg (legInDigit (l .leg-at .result)) (sym (c .before .is-leg .ensures) ∙ c .if2 .taken) in
+    let leg = some-leg (legInByte (l .leg-at .result)) (sym (c .before .is-leg .ensures) ∙ c .if2 .taken) in
     rw (running (l .before .before .args .phase) (l .before .if1 .left), ← l .leg-at .ensures, leg .1)
 
 returns-3 : tie.Need-returns-3
 returns-3 c =
     let l = c .before .before in
-    let none = no-leg (legInDigit (l .leg-at .result)) (sym (c .before .is-leg .ensures) ∙ c .if2 .left) in
+    let none = no-leg (legInByte (l .leg-at .result)) (sym (c .before .is-leg .ensures) ∙ c .if2 .left) in
     rw (running (l .before .before .args .phase) (l .before .if1 .left), ← l .leg-at .ensures, none)
 
 pub stop-spec : {M : Type 1} → statement M

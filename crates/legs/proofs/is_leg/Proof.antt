@@ -1,6 +1,6 @@
--- `legs::is_leg` meets its contract: R, D and Z are 1, 2 and 3.
+-- `legs::is_leg` meets its contract: only 0 is no leg.
 -- Assumes nothing.
-use Rattle.legs.proofs.Digit.{leg-test}
+use Rattle.legs.proofs.Byte.{leg-test}
 use Rattle.legs.proofs.is_leg.Statement.{statement}
 use Rattle.legs.proofs.is_leg.Tie as tie
 

@@ -3,7 +3,7 @@
 use mir.Facts.{toZ-ofZ}
 use mir.Syntax.{w32}
 use mir.Val.{SFits}
-use Rattle.speed.proofs.Digit.{digit-speed}
+use Rattle.speed.proofs.Byte.{byte-speed}
 use borrow.Author.Needs.{needs}
 use Rattle.speed.proofs.speed.Statement.{statement}
 use Rattle.speed.proofs.speed.Tie as tie
@@ -19,13 +19,13 @@ returns c =
     let l = c .before .before in
     let x = l .before .args in
     let r : SFits w32 (c .leg-speed .result) = search needs in
-    rw (toZ-ofZ r, c .leg-speed .ensures, digit-speed (x .s) (x .leg), ← l .is-leg .ensures, c .before .if1 .taken)
+    rw (toZ-ofZ r, c .leg-speed .ensures, byte-speed (x .s) (x .leg), ← l .is-leg .ensures, c .before .if1 .taken)
 
 returns-2 : tie.Need-returns-2
 returns-2 c =
     let l = c .before in
     let x = l .before .args in
-    rw (digit-speed (x .s) (x .leg), ← l .is-leg .ensures, c .if1 .left)
+    rw (byte-speed (x .s) (x .leg), ← l .is-leg .ensures, c .if1 .left)
 
 pub speed-spec : {M : Type 1} → statement M
 speed-spec = tie.close (tie.spec is-leg-requires leg-speed-requires returns returns-2)

@@ -4,7 +4,6 @@ use Prim.Native.Nat.{ℕ}
 use mathlib.Core.Path.{sym, ap, _∙_}
 use Rattle.patterns.proofs.Numbers.{read32}
 use Rattle.control.specs.Control.{bitRises}
-use Rattle.legs.specs.declared.events.Switches.{Switches}
 use Rattle.homing.specs.Phase.{homedIn, runningIn}
 use Rattle.cells.specs.Cells.{motionIn}
 use Rattle.axis.proofs.Branches.{bits-of-tick, starts, steps, arrives, fresh-start, fresh-step, rests}
@@ -21,9 +20,6 @@ control-requires c κs = search needs
 rising-requires : tie.Need-rising-requires
 rising-requires c κs = search needs
 
-home-on-requires : tie.Need-home-on-requires
-home-on-requires c κs = search needs
-
 bit-requires : tie.Need-bit-requires
 bit-requires c κs = search needs
 
@@ -37,17 +33,16 @@ returns : tie.Need-returns
 returns c =
     let s = c .before .before .before in
     let d = s .before in
-    let h = d .before in
-    let i = h .before in
+    let i = d .before in
     let k = i .before .before in
     let m = k .before .before in
     let b = m .before .before in
     let l = b .args .axis .now in
     let t = b .args .t in
     let rising = sym (i .before .rising .ensures ∙ ap (λ (n : ℕ). bitRises n (t .control) 4) (k .control .ensures)) ∙ i .if1 .taken in
-    let home = h .home-on .ensures ∙ ap (λ (x : Switches). x .home) (bits-of-tick t (b .args .switches) (b .pre)) in
+    let switches = bits-of-tick t (b .args .switches) (b .pre) in
     arrives l t (c .settle .last .0) _ (s .start .result)
-    (starts l t (m .method .ensures) rising home (d .bit .ensures) (s .start .ensures))
+    (starts l t (m .method .ensures) rising switches (d .bit .ensures) (s .start .ensures))
     (fresh-start (homedIn (motionIn l .phase)) rising)
     (read32 (t .position) (c .before .struct-told .given .1 .1 .0 .1))
     (c .settle .ensures .0)
@@ -108,7 +103,6 @@ in-homing-spec =
     method-requires
     control-requires
     rising-requires
-    home-on-requires
     bit-requires
     start-requires
     settle-requires
