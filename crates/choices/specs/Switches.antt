@@ -1,4 +1,4 @@
--- "SWITCHES: four characters, `P` or `-` (POT), `N` or `-` (NOT), `H` or `-` (HOM), `Z` or `-` (Z)."
+-- "one word of four characters, POT, NOT, HOM and Z in this order: `P`, `N`, `H`, `Z`, or `-` where off"
 -- Assumes nothing.
 use Prim.Native.Nat.{ℕ}
 use mathlib.Core.Bool.{Bool, false, cond, _&&_, _||_}
@@ -21,5 +21,5 @@ abbrev pub fourOf : List ℕ → Switches
 fourOf bs =
     record { positive = eqb (getD bs 0 0) 80; negative = eqb (getD bs 1 0) 78; home = eqb (getD bs 2 0) 72; index = eqb (getD bs 3 0) 90 }
 
-abbrev pub shownOf : List ℕ → Shown
-shownOf bs = cond (eqb (length bs) 4) (record { accepted = fourOk bs; switches = fourOf bs }) (record { accepted = false; switches = allOff })
+abbrev pub switchesShown : List ℕ → Shown
+switchesShown bs = cond (eqb (length bs) 4) (record { accepted = fourOk bs; switches = fourOf bs }) (record { accepted = false; switches = allOff })

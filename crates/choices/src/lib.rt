@@ -2,9 +2,11 @@
 use cursors::Cursor;
 use cursors::Expected;
 use legs::events::Switches;
+use torque::LimitSet;
 ghost use mathlib.Core.Path.{_≡_};
-ghost use Rattle.choices.specs.Choices.{atOf, choiceOf, standstillOf, limitSetOf, switchesOf};
-ghost use Rattle.choices.specs.Switches.{switchOk, shownOf};
+ghost use Rattle.keywords.specs.Keywords.{wordsListed};
+ghost use Rattle.choices.specs.Choices.{atRead, choiceRead, standstillRead, setRead, switchesRead};
+ghost use Rattle.choices.specs.Switches.{switchOk, switchesShown};
 
 // Values read, each of no meaning where the cursor is lost.
 pub struct SwitchesRead {
@@ -14,6 +16,11 @@ pub struct SwitchesRead {
 
 pub struct ChoiceRead {
     pub value: bool,
+    pub cursor: Cursor,
+}
+
+pub struct SetRead {
+    pub value: LimitSet,
     pub cursor: Cursor,
 }
 
@@ -31,7 +38,7 @@ fn switch_ok(byte: u8, letter: u8) -> bool
 }
 
 fn four_switches(word: &[u8]) -> Shown
-    ensures { λ r. ⌜ r ≡ shownOf (now (word .entry)) ⌝ }
+    ensures { λ r. ⌜ r ≡ switchesShown (now (word .entry)) ⌝ }
 {
     if word.len() == 4 {
         let positive = word[0];
@@ -65,7 +72,7 @@ fn four_switches(word: &[u8]) -> Shown
 
 // The word `at`.
 pub fn at(text: &[u8], cursor: Cursor) -> Cursor
-    ensures { λ r. ⌜ r ≡ atOf (now (text .entry)) cursor ⌝ }
+    ensures { λ r. ⌜ r ≡ atRead (now (text .entry)) cursor ⌝ }
 {
     let word = tokens::next(text, cursor.at);
     let start = word.start;
@@ -73,42 +80,47 @@ pub fn at(text: &[u8], cursor: Cursor) -> Cursor
     cursor.judge(word, tokens::same(&text[start..end], b"at"), Expected::At)
 }
 
-// One of two words; true for the first.
-fn choice(
-    text: &[u8],
-    cursor: Cursor,
-    first: &[u8],
-    second: &[u8],
-    expected: Expected,
-) -> ChoiceRead
-    ensures { λ r. ⌜ r ≡ choiceOf (now (first .entry)) (now (second .entry)) expected (now (text .entry)) cursor ⌝ }
+// One of the two words of a list; true for the first.
+fn choice(text: &[u8], cursor: Cursor, words: &[u8], expected: Expected) -> ChoiceRead
+    ensures { λ r. ⌜ r ≡ choiceRead (wordsListed (now (words .entry))) expected (now (text .entry)) cursor ⌝ }
 {
     let word = tokens::next(text, cursor.at);
     let start = word.start;
     let end = word.end;
-    let is_first = tokens::same(&text[start..end], first);
-    let is_second = tokens::same(&text[start..end], second);
+    let number = keywords::which(&text[start..end], words);
     ChoiceRead {
-        value: is_first,
-        cursor: cursor.judge(word, is_first | is_second, expected),
+        value: number == 0,
+        cursor: cursor.judge(word, number < 2, expected),
     }
 }
 
 pub fn standstill(text: &[u8], cursor: Cursor) -> ChoiceRead
-    ensures { λ r. ⌜ r ≡ standstillOf (now (text .entry)) cursor ⌝ }
+    ensures { λ r. ⌜ r ≡ standstillRead (now (text .entry)) cursor ⌝ }
 {
-    choice(text, cursor, b"still", b"moving", Expected::Standstill)
+    choice(text, cursor, b"still\nmoving\n", Expected::Standstill)
 }
 
-pub fn limit_set(text: &[u8], cursor: Cursor) -> ChoiceRead
-    ensures { λ r. ⌜ r ≡ limitSetOf (now (text .entry)) cursor ⌝ }
+pub fn set(text: &[u8], cursor: Cursor) -> SetRead
+    ensures { λ r. ⌜ r ≡ setRead (now (text .entry)) cursor ⌝ }
 {
-    choice(text, cursor, b"set1", b"set2", Expected::Set)
+    let first = choice(text, cursor, b"set1\nset2\n", Expected::Set);
+    let cursor = first.cursor;
+    if first.value {
+        SetRead {
+            value: LimitSet::Set1,
+            cursor,
+        }
+    } else {
+        SetRead {
+            value: LimitSet::Set2,
+            cursor,
+        }
+    }
 }
 
 // POT, NOT, HOM and Z, each as its letter or `-`.
 pub fn switches(text: &[u8], cursor: Cursor) -> SwitchesRead
-    ensures { λ r. ⌜ r ≡ switchesOf (now (text .entry)) cursor ⌝ }
+    ensures { λ r. ⌜ r ≡ switchesRead (now (text .entry)) cursor ⌝ }
 {
     let word = tokens::next(text, cursor.at);
     let start = word.start;

@@ -1,4 +1,4 @@
--- Answers to a line that cannot be read.
+-- Answers to a line that cannot be read, as docs/LINES.md has them.
 -- Assumes nothing.
 use Prim.Native.Nat.{ℕ}
 use mathlib.Core.List.{List, [], _∷_, _++_}
@@ -33,13 +33,13 @@ expectedText Standstill = ascii " expected still or moving\n"
 expectedText Set = ascii " expected set1 or set2\n"
 expectedText End = ascii " expected end of line\n"
 
-abbrev pub placeText : ℕ → ℕ → List ℕ
-placeText line column = (ascii "unreadable " ++ decimal line) ++ ((32 ∷ []) ++ decimal column)
+abbrev pub lineAndColumnText : ℕ → ℕ → List ℕ
+lineAndColumnText line column = (ascii "unreadable " ++ decimal line) ++ ((32 ∷ []) ++ decimal column)
 
 -- "unreadable LINE COLUMN expected WHAT"
 abbrev pub unreadableText : ℕ → Trouble → List ℕ
-unreadableText line t = placeText line (t .column) ++ expectedText (t .expected)
+unreadableText line t = lineAndColumnText line (t .column) ++ expectedText (t .expected)
 
 -- "unreadable LINE 256 line too long"
 abbrev pub longText : ℕ → List ℕ
-longText line = placeText line 256 ++ ascii " line too long\n"
+longText line = lineAndColumnText line 256 ++ ascii " line too long\n"

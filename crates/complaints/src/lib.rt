@@ -2,7 +2,7 @@
 use cursors::Expected;
 use lines::Trouble;
 ghost use mathlib.Core.Path.{_≡_};
-ghost use Rattle.complaints.specs.Texts.{expectedRow, expectedText, placeText, unreadableText, longText};
+ghost use Rattle.complaints.specs.Texts.{expectedRow, expectedText, lineAndColumnText, unreadableText, longText};
 ghost use Rattle.page.specs.Page.{Printed};
 
 fn expected_row(expected: Expected) -> usize
@@ -33,24 +33,24 @@ fn expected(out: &mut [u8], at: usize, expected: Expected) -> usize
     )
 }
 
-fn place(out: &mut [u8], line: u64, column: u64) -> usize
-    ensures { λ r. ⌜ Printed (now (out .entry)) 0 (placeText line column) (now (out .exit)) r ⌝ }
+fn line_and_column(out: &mut [u8], line: u64, column: u64) -> usize
+    ensures { λ r. ⌜ Printed (now (out .entry)) 0 (lineAndColumnText line column) (now (out .exit)) r ⌝ }
 {
-    let at = phrases::count(out, 0, b"unreadable ", line);
-    phrases::count(out, at, b" ", column)
+    let at = phrases::named_decimal(out, 0, b"unreadable ", line);
+    phrases::named_decimal(out, at, b" ", column)
 }
 
 pub fn unreadable(out: &mut [u8], line: u64, trouble: Trouble) -> usize
     ensures { λ r. ⌜ Printed (now (out .entry)) 0 (unreadableText line trouble) (now (out .exit)) r ⌝ }
 {
     let what = trouble.expected;
-    let at = place(out, line, trouble.column as u64);
+    let at = line_and_column(out, line, trouble.column as u64);
     expected(out, at, what)
 }
 
 pub fn too_long(out: &mut [u8], line: u64) -> usize
     ensures { λ r. ⌜ Printed (now (out .entry)) 0 (longText line) (now (out .exit)) r ⌝ }
 {
-    let at = place(out, line, 256);
+    let at = line_and_column(out, line, 256);
     page::text(out, at, b" line too long\n")
 }

@@ -3,15 +3,15 @@ use gather::Ended;
 use gather::Held;
 use libc::STDIN_FILENO;
 use libc::STDOUT_FILENO;
-use session::Answered;
 use session::Session;
+use session::Turn;
 ghost use Prim.Native.Nat.{ℕ, _<_, _≤_};
 ghost use mathlib.Core.List.{List};
 ghost use mathlib.Core.Path.{_≡_};
 ghost use lib.ListN.{length, take};
 ghost use Rattle.gather.specs.Lines.{Holds};
 ghost use Rattle.session.specs.Answering.{meant};
-ghost use Rattle.console.specs.Stream.{noneHeld, Stream, atFirst, afterLine, answerTo, fedAll, finishedBy, Stands, Moved};
+ghost use Rattle.console.specs.Stream.{noneHeld, Stream, beforeInput, afterLine, answerTo, withBytes, finishedBy, InStep, StillInStep};
 
 // A session, and the line that has not ended yet.
 struct Console {
@@ -26,7 +26,7 @@ struct Step {
 }
 
 // After a read: whether there may be more.
-struct Turn {
+struct AfterRead {
     console: Console,
     open: bool,
 }
@@ -42,7 +42,7 @@ fn nothing_held() -> Held
 
 // Nothing has come yet.
 fn fresh() -> Console
-    ensures { λ r. ⌜ ((line : List ℕ) → Stands line r atFirst) ⌝ }
+    ensures { λ r. ⌜ ((line : List ℕ) → InStep line r beforeInput) ⌝ }
 {
     Console {
         session: Session::fresh(),
@@ -51,7 +51,7 @@ fn fresh() -> Console
 }
 
 // What a line that has ended is answered, on the page.
-fn reply(session: Session, line: &[u8], held: Held, out: &mut [u8]) -> Answered
+fn reply(session: Session, line: &[u8], held: Held, out: &mut [u8]) -> Turn
     ensures { λ r. ⌜ r .length ≤ length (now (out .exit)) ⌝ }
     ensures { λ r. ⌜ ((bs : List ℕ) → 256 ≤ length (now (line .entry)) → Holds (now (line .entry)) held bs → meant (r .session) ≡ afterLine (meant session) bs) ⌝ }
     ensures { λ r. ⌜ ((bs : List ℕ) → 256 ≤ length (now (line .entry)) → 512 ≤ length (now (out .entry)) → Holds (now (line .entry)) held bs → take (r .length) (now (out .exit)) ≡ answerTo (meant session) bs) ⌝ }
@@ -67,16 +67,16 @@ fn answer(session: Session, line: &[u8], held: Held) -> Session
     ensures { λ r. ⌜ ((bs : List ℕ) → 256 ≤ length (now (line .entry)) → Holds (now (line .entry)) held bs → meant r ≡ afterLine (meant session) bs) ⌝ }
 {
     let mut out = [0u8; 512];
-    let answered = reply(session, line, held, &mut out);
-    let written = answered.length;
+    let turn = reply(session, line, held, &mut out);
+    let written = turn.length;
     io::write_all(STDOUT_FILENO, &out[..written]);
-    answered.session
+    turn.session
 }
 
 // Takes the chunk's bytes up to the next line's end, and answers that line.
 fn take_line(console: Console, chunk: &[u8], from: usize, line: &mut [u8]) -> Step
     ensures { λ r. ⌜ (from < length (now (chunk .entry)) → from < r .next) ⌝ }
-    ensures { λ r. ⌜ ((st : Stream) → 256 ≤ length (now (line .entry)) → Stands (now (line .entry)) console st → Moved (now (chunk .entry)) from (r .next) (now (line .exit)) (r .console) st) ⌝ }
+    ensures { λ r. ⌜ ((st : Stream) → 256 ≤ length (now (line .entry)) → InStep (now (line .entry)) console st → StillInStep (now (chunk .entry)) from (r .next) (now (line .exit)) (r .console) st) ⌝ }
 {
     let session = console.session;
     let before = console.held;
@@ -100,7 +100,7 @@ fn take_line(console: Console, chunk: &[u8], from: usize, line: &mut [u8]) -> St
 
 // Answers each line that ends in the chunk.
 fn serve(console: Console, chunk: &[u8], line: &mut [u8]) -> Console
-    ensures { λ r. ⌜ ((st : Stream) → 256 ≤ length (now (line .entry)) → Stands (now (line .entry)) console st → Stands (now (line .exit)) r (fedAll st (now (chunk .entry)))) ⌝ }
+    ensures { λ r. ⌜ ((st : Stream) → 256 ≤ length (now (line .entry)) → InStep (now (line .entry)) console st → InStep (now (line .exit)) r (withBytes st (now (chunk .entry)))) ⌝ }
 {
     let mut now = console;
     let mut i: usize = 0;
@@ -113,11 +113,11 @@ fn serve(console: Console, chunk: &[u8], line: &mut [u8]) -> Console
 }
 
 // Reads once, and answers.
-fn read_once(console: Console, line: &mut [u8]) -> Turn {
+fn read_once(console: Console, line: &mut [u8]) -> AfterRead {
     let mut chunk = io::large_buffer();
     let got = libc::read(STDIN_FILENO, &mut chunk);
     let n = io::count(got, &chunk);
-    Turn {
+    AfterRead {
         console: serve(console, &chunk[..n], line),
         open: 0 < n,
     }
@@ -125,7 +125,7 @@ fn read_once(console: Console, line: &mut [u8]) -> Turn {
 
 // The last line may have no end.
 fn finish(console: Console, line: &[u8]) -> Session
-    ensures { λ r. ⌜ ((st : Stream) → 256 ≤ length (now (line .entry)) → Stands (now (line .entry)) console st → meant r ≡ finishedBy (st .conversation) (st .line)) ⌝ }
+    ensures { λ r. ⌜ ((st : Stream) → 256 ≤ length (now (line .entry)) → InStep (now (line .entry)) console st → meant r ≡ finishedBy (st .conversation) (st .line)) ⌝ }
 {
     let session = console.session;
     let held = console.held;
@@ -151,9 +151,9 @@ fn converse() {
     let mut console = fresh();
     let mut reads = u64::MAX;
     while 0 < reads {
-        let turn = read_once(console, &mut line);
-        console = turn.console;
-        reads = reads_left(reads, turn.open);
+        let after = read_once(console, &mut line);
+        console = after.console;
+        reads = reads_left(reads, after.open);
     }
     finish(console, &line);
 }

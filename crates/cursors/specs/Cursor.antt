@@ -1,4 +1,4 @@
--- "COLUMN [..] is where the first word stands that is not accepted": a cursor that meets such a word stays at it.
+-- A cursor that meets a word that is not accepted stays at it: COLUMN "is where the first word stands that is not accepted".
 -- Assumes nothing.
 use Prim.Native.Nat.{ℕ}
 use mathlib.Core.Bool.{Bool, true, false, cond}
@@ -6,13 +6,13 @@ use mathlib.Core.List.{List}
 use lib.Dec.{eqb}
 use lib.ListN.{length}
 use Rattle.tokens.specs.declared.Span.{Span}
-use Rattle.tokens.specs.Words.{nextOf, bytesOf}
+use Rattle.tokens.specs.Words.{nextWord, bytesOf}
 use Rattle.cursors.specs.declared.Cursor.{Cursor}
 use Rattle.cursors.specs.declared.Expected.{Expected}
 use Rattle.cursors.specs.declared.Expected.the-variants.{Keyword, End}
 
-abbrev pub startOf : Cursor
-startOf = record { at = 0; lost = false; expected = Keyword }
+abbrev pub lineStart : Cursor
+lineStart = record { at = 0; lost = false; expected = Keyword }
 
 abbrev pub acceptOf : Cursor → Span → Cursor
 acceptOf c w = cond (c .lost) c (record { at = w .end; lost = false; expected = Keyword })
@@ -24,12 +24,12 @@ abbrev pub judgeOf : Cursor → Span → Bool → Expected → Cursor
 judgeOf c w accepted e = cond accepted (acceptOf c w) (refuseOf c w e)
 
 -- the place of the next word, and its bytes
-abbrev pub placeOf : List ℕ → Cursor → Span
-placeOf text c = nextOf text (c .at)
+abbrev pub spanAt : List ℕ → Cursor → Span
+spanAt text c = nextWord text (c .at)
 
-abbrev pub wordOf : List ℕ → Cursor → List ℕ
-wordOf text c = bytesOf text (placeOf text c)
+abbrev pub bytesAt : List ℕ → Cursor → List ℕ
+bytesAt text c = bytesOf text (spanAt text c)
 
 -- no word is left
-unfoldable pub endOf : List ℕ → Cursor → Cursor
-endOf text c = judgeOf c (placeOf text c) (eqb (placeOf text c .start) (length text)) End
+unfoldable pub lineEnd : List ℕ → Cursor → Cursor
+lineEnd text c = judgeOf c (spanAt text c) (eqb (spanAt text c .start) (length text)) End

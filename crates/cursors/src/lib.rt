@@ -1,7 +1,7 @@
 // A place in a line's text, moved on word by word.
 use tokens::Span;
 ghost use mathlib.Core.Path.{_≡_};
-ghost use Rattle.cursors.specs.Cursor.{startOf, acceptOf, refuseOf, judgeOf, endOf};
+ghost use Rattle.cursors.specs.Cursor.{lineStart, acceptOf, refuseOf, judgeOf, lineEnd};
 
 // What a line was to have where it cannot be read further.
 pub enum Expected {
@@ -26,7 +26,7 @@ pub struct Cursor {
 
 impl Cursor {
     pub fn start() -> Cursor
-        ensures { λ r. ⌜ r ≡ startOf ⌝ }
+        ensures { λ r. ⌜ r ≡ lineStart ⌝ }
     {
         Cursor {
             at: 0,
@@ -75,7 +75,7 @@ impl Cursor {
 
     // No word is left.
     pub fn end(self, text: &[u8]) -> Cursor
-        ensures { λ r. ⌜ r ≡ endOf (now (text .entry)) self ⌝ }
+        ensures { λ r. ⌜ r ≡ lineEnd (now (text .entry)) self ⌝ }
     {
         let word = tokens::next(text, self.at);
         self.judge(word, word.start == text.len(), Expected::End)

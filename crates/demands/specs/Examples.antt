@@ -9,7 +9,7 @@ use mathlib.Core.List.{List, [], _∷_, _++_, map}
 use lib.Dec.{eqb}
 use lib.IntN.{ℤ, pos}
 use lib.ListN.{take, drop, replicate}
-use lib.Ieee.{ofBits, sub, add, mul, div, ofInt}
+use lib.Ieee.{ofBits, sub, mul, div, ofInt}
 use Rattle.counts.specs.Bit.{bitOf}
 use Rattle.counts.specs.Wrap.{modulo, signed, wrapped}
 use Rattle.counts.specs.Divide.{floorDiv}
@@ -174,5 +174,5 @@ readings =
     ∷ []
 
 holds : (all table ≡ true) × (all further ≡ true) × (all readings ≡ true)
-unfolding table further readings words-S settings-S modulo signed wrapped floorDiv clamped methodOk inRange gearedOf inReach limitsVerdict acceptable valuesOf total checksumOf wordsFrom wordsOf settingsOf fieldOk startRead fieldRead endVerdict endRead readOf controlCommandOf nextState leastSet alarmNumberOf quotientOf sizeOf negative wholePart ofBits sub add mul div ofInt eventCounts limitCounts rowOf skips startPlace legAt places.entered places.limitAt places.runningOf places.startOf signedOf capOf torqueOf countOf statuswordOf answerIn answeredIn wordOf newPhase tickOf completedBy withBit31
+unfolding table further readings words-S settings-S modulo signed wrapped floorDiv clamped methodOk inRange gearedOf inReach limitsVerdict acceptable valuesOf total checksumOf wordsFrom wordsOf settingsOf fieldOk startRead fieldRead endVerdict endRead readOf controlCommandOf nextState leastSet alarmNumberOf quotientOf sizeOf negative wholePart ofBits sub mul div ofInt eventCounts limitCounts rowOf skips startPlace legAt places.entered places.runningOf places.startOf signedOf capOf torqueOf countOf statuswordOf answerIn answeredIn wordOf newPhase tickOf completedBy withBit31
 holds = (refl, refl, refl)

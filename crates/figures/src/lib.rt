@@ -1,5 +1,5 @@
 // Numbers printed on a page.
-ghost use Prim.Native.Nat.{_<_};
+ghost use Prim.Native.Nat.{_≤_, _<_};
 ghost use mathlib.Core.Path.{_≡_};
 ghost use Rattle.numerals.specs.Writing as writing;
 ghost use Rattle.page.specs.Page.{Printed};
@@ -16,36 +16,35 @@ fn glyph(digit: u64) -> u8
     }
 }
 
+// The last `places` digits in a base, with the zeros in front of a number's own digits or without them.
+fn digits(out: &mut [u8], at: usize, number: u64, base: u64, zeros: bool, places: usize) -> usize
+    requires { ⌜ 0 < base ⌝ }
+    requires { ⌜ base ≤ 16 ⌝ }
+    ensures { λ r. ⌜ Printed (now (out .entry)) at (writing.digits base zeros places number) (now (out .exit)) r ⌝ }
+{
+    if places == 0 {
+        return at;
+    }
+    if zeros | (base <= number) {
+        let end = digits(out, at, number / base, base, zeros, places - 1);
+        page::byte(out, end, glyph(number % base))
+    } else {
+        page::byte(out, at, glyph(number % base))
+    }
+}
+
 // The last `places` hexadecimal digits.
 pub fn hexadecimal(out: &mut [u8], at: usize, number: u64, places: usize) -> usize
     ensures { λ r. ⌜ Printed (now (out .entry)) at (writing.hexadecimal places number) (now (out .exit)) r ⌝ }
 {
-    if places == 0 {
-        return at;
-    }
-    let end = hexadecimal(out, at, number / 16, places - 1);
-    page::byte(out, end, glyph(number % 16))
-}
-
-// The decimal digits of a number, at most `places` of them.
-fn digits(out: &mut [u8], at: usize, number: u64, places: usize) -> usize
-    ensures { λ r. ⌜ Printed (now (out .entry)) at (writing.digits places number) (now (out .exit)) r ⌝ }
-{
-    if places == 0 {
-        return at;
-    }
-    if number < 10 {
-        return page::byte(out, at, glyph(number));
-    }
-    let end = digits(out, at, number / 10, places - 1);
-    page::byte(out, end, glyph(number % 10))
+    digits(out, at, number, 16, true, places)
 }
 
 // A number in decimal: 20 digits hold every one.
 pub fn decimal(out: &mut [u8], at: usize, number: u64) -> usize
     ensures { λ r. ⌜ Printed (now (out .entry)) at (writing.decimal number) (now (out .exit)) r ⌝ }
 {
-    digits(out, at, number, 20)
+    digits(out, at, number, 10, false, 20)
 }
 
 // A signed number in decimal.

@@ -18,7 +18,7 @@ use Rattle.spelling.specs.declared.Number.the-variants.{Value}
 use Rattle.spelling.specs.Spelling.{decimalOf, Below}
 use Rattle.spelling.proofs.Reach.{digits-below}
 use Rattle.floats.specs.declared.Float.the-variants as float
-use Rattle.floats.specs.Literal.{eightOf, withoutPoint, withPoint, unsignedOf, negatedOf, floatOf}
+use Rattle.floats.specs.Literal.{eightOf, withoutPoint, withPoint, unsignedOf, negatedOf, spelledFloat}
 
 and-left : (a b : Bool) → a && b ≡ true → a ≡ true
 and-left true b e = refl
@@ -72,18 +72,18 @@ rest bs = take (length bs - 1) (drop 1 bs)
 rest-cons : (b : ℕ) (bs : List ℕ) → rest (b ∷ bs) ≡ bs
 rest-cons b bs = take-all (suc (length bs) - 1) bs (omega arith)
 
-pub no-text : (bs : List ℕ) → length bs ≡ 0 → floatOf bs ≡ float.Unreadable
+pub no-text : (bs : List ℕ) → length bs ≡ 0 → spelledFloat bs ≡ float.Unreadable
 no-text [] e = refl
 no-text (b ∷ bs) e = absurd (omega arith)
 
-pub x-first : (bs : List ℕ) → 0 < length bs → getD bs 0 0 ≡ 120 → eightOf (rest bs) ≡ floatOf bs
+pub x-first : (bs : List ℕ) → 0 < length bs → getD bs 0 0 ≡ 120 → eightOf (rest bs) ≡ spelledFloat bs
 x-first [] h e = absurd (omega arith)
 x-first (b ∷ bs) h e = rw (eq-eqb b 120 e) (ap eightOf (rest-cons b bs))
 
-pub minus-first : (bs : List ℕ) → 0 < length bs → getD bs 0 0 ≡ 45 → negatedOf (unsignedOf (rest bs)) ≡ floatOf bs
+pub minus-first : (bs : List ℕ) → 0 < length bs → getD bs 0 0 ≡ 45 → negatedOf (unsignedOf (rest bs)) ≡ spelledFloat bs
 minus-first [] h e = absurd (omega arith)
 minus-first (b ∷ bs) h e = rw (e, rest-cons b bs)
 
-pub neither-first : (bs : List ℕ) → 0 < length bs → (getD bs 0 0 ≡ 120 → ⊥) → (getD bs 0 0 ≡ 45 → ⊥) → unsignedOf bs ≡ floatOf bs
+pub neither-first : (bs : List ℕ) → 0 < length bs → (getD bs 0 0 ≡ 120 → ⊥) → (getD bs 0 0 ≡ 45 → ⊥) → unsignedOf bs ≡ spelledFloat bs
 neither-first [] h x m = absurd (omega arith)
 neither-first (b ∷ bs) h x m = rw (ne-eqb b 120 x, ne-eqb b 45 m)

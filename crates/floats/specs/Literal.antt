@@ -19,29 +19,29 @@ abbrev pub patternOf : Number → Float
 patternOf (number.Value n) = Value (ofBits binary32 n)
 patternOf number.Unreadable = Unreadable
 
--- after the `x`: "exactly eight hexadecimal digits, its binary32 pattern (every NaN pattern is the one NaN)"
+-- after the `x`: "eight hexadecimal digits, its binary32 pattern (every NaN pattern is the one NaN)"
 abbrev pub eightOf : List ℕ → Float
 eightOf bs = cond (eqb (length bs) 8) (patternOf (spelledOf 16 8 bs)) Unreadable
 
--- "its digits as a whole number, rounded to the nearest binary32, divided by the power of ten, rounded once more"
-unfoldable pub quotientOf : ℕ → ℕ → Ieee.Float
-quotientOf n power = div binary32 (ofInt binary32 (pos n)) (ofInt binary32 (pos power))
+-- "The digits as a whole number are rounded to the nearest float, divided by the power of ten, and rounded once more"
+unfoldable pub quotientFloat : ℕ → ℕ → Ieee.Float
+quotientFloat n power = div binary32 (ofInt binary32 (pos n)) (ofInt binary32 (pos power))
 
-abbrev pub wholeOf : Number → Float
-wholeOf (number.Value n) = Value (quotientOf n 1)
-wholeOf number.Unreadable = Unreadable
+abbrev pub wholeFloat : Number → Float
+wholeFloat (number.Value n) = Value (quotientFloat n 1)
+wholeFloat number.Unreadable = Unreadable
 
 -- the digits before the point and those after it, as one whole number
 abbrev pub joinedOf : ℕ → Number → Number → Float
-joinedOf power (number.Value n) (number.Value m) = Value (quotientOf (n * power + m) power)
+joinedOf power (number.Value n) (number.Value m) = Value (quotientFloat (n * power + m) power)
 joinedOf power (number.Value n) number.Unreadable = Unreadable
 joinedOf power number.Unreadable m = Unreadable
 
--- "1 to 9 digits in all"
+-- 1 to 9 digits
 abbrev pub withoutPoint : List ℕ → Float
-withoutPoint bs = cond (leb (length bs) 9) (wholeOf (decimalOf bs)) Unreadable
+withoutPoint bs = cond (leb (length bs) 9) (wholeFloat (decimalOf bs)) Unreadable
 
--- "at most one point that has a digit on both sides"
+-- 1 to 9 digits in all, "with at most one point between two of them"
 abbrev pub withPoint : List ℕ → List ℕ → Float
 withPoint before after =
     cond (leb (length before + length after) 9) (joinedOf (10 ^ length after) (decimalOf before) (decimalOf after)) Unreadable
@@ -55,6 +55,6 @@ abbrev pub negatedOf : Float → Float
 negatedOf (Value x) = Value (neg x)
 negatedOf Unreadable = Unreadable
 
-abbrev pub floatOf : List ℕ → Float
-floatOf [] = Unreadable
-floatOf (b ∷ bs) = cond (eqb b 120) (eightOf bs) (cond (eqb b 45) (negatedOf (unsignedOf bs)) (unsignedOf (b ∷ bs)))
+abbrev pub spelledFloat : List ℕ → Float
+spelledFloat [] = Unreadable
+spelledFloat (b ∷ bs) = cond (eqb b 120) (eightOf bs) (cond (eqb b 45) (negatedOf (unsignedOf bs)) (unsignedOf (b ∷ bs)))

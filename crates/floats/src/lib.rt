@@ -3,7 +3,7 @@ use spelling::Number;
 ghost use Prim.Native.Nat.{_^_, _≤_};
 ghost use mathlib.Core.Path.{_≡_};
 ghost use lib.Ieee.{binary32, ofBits};
-ghost use Rattle.floats.specs.Literal.{eightOf, quotientOf, withoutPoint, withPoint, unsignedOf, negatedOf, floatOf};
+ghost use Rattle.floats.specs.Literal.{eightOf, quotientFloat, withoutPoint, withPoint, unsignedOf, negatedOf, spelledFloat};
 
 // What some bytes spell.
 pub enum Float {
@@ -51,7 +51,7 @@ fn power_of_ten(places: usize) -> u32
 
 // A whole number over a power of ten, each rounded once, and the quotient too.
 fn quotient(value: u32, power: u32) -> f32
-    ensures { λ r. ⌜ r ≡ quotientOf value power ⌝ }
+    ensures { λ r. ⌜ r ≡ quotientFloat value power ⌝ }
 {
     std::num::nearest_u32_to_f32(value) / std::num::nearest_u32_to_f32(power)
 }
@@ -111,7 +111,7 @@ fn negated(float: Float) -> Float
 }
 
 pub fn read(text: &[u8]) -> Float
-    ensures { λ r. ⌜ r ≡ floatOf (now (text .entry)) ⌝ }
+    ensures { λ r. ⌜ r ≡ spelledFloat (now (text .entry)) ⌝ }
 {
     if text.len() == 0 {
         return Float::Unreadable;

@@ -11,13 +11,13 @@ use lib.ListN.{length, take, getD}
 use lib.Seq.{take-all, take-take, getD-take}
 use Rattle.gather.specs.declared.Ended.the-variants.{Text, TooLong}
 use Rattle.gather.specs.declared.Held.{Held}
-use Rattle.gather.specs.Lines.{Holds, withoutCR, fittingOf, endedOf, Inside}
+use Rattle.gather.specs.Lines.{Holds, withoutCR, fittingOf, endedOf, endedIn, InsideBuffer}
 
-inside-if : (t : Bool) (n room : ℕ) → n ≤ room → Inside (cond t (Text n) TooLong) room
+inside-if : (t : Bool) (n room : ℕ) → n ≤ room → InsideBuffer (cond t (Text n) TooLong) room
 inside-if true n room h = h
 inside-if false n room h = tt
 
-pub fitting-inside : (n room : ℕ) → n ≤ room → Inside (fittingOf n) room
+pub fitting-inside : (n room : ℕ) → n ≤ room → InsideBuffer (fittingOf n) room
 fitting-inside n room h = inside-if (ltb n 256) n room h
 
 at-least : (t : Bool) (n : ℕ) → n ≤ suc (cond t (n - 1) n)
@@ -28,13 +28,23 @@ at-most : (t : Bool) (n : ℕ) → cond t (n - 1) n ≤ n
 at-most true n = omega arith
 at-most false n = omega arith
 
--- too many bytes came
-pub over-long : (line : List ℕ) (h : Held) (bs : List ℕ) → 256 ≤ length line → h .over ≡ true → Holds line h bs → TooLong ≡ endedOf bs
+-- more bytes came than there is room for
+pub over-long : (line : List ℕ) (h : Held) (bs : List ℕ) → h .over ≡ true → Holds line h bs → TooLong ≡ endedIn (length line) bs
+over-long line h bs o k = rw (sym (k .over) ∙ o)
+
+pub in-room : (line : List ℕ) (h : Held) (bs : List ℕ) → h .over ≡ false → Holds line h bs → endedOf bs ≡ endedIn (length line) bs
+in-room line h bs o k = rw (sym (k .over) ∙ o)
+
+-- room for 256 bytes is room for every line: what does not fit there is too long anyway
+pub room-enough : (room : ℕ) (bs : List ℕ) → 256 ≤ room → endedIn room bs ≡ endedOf bs
 unfolding withoutCR
-over-long line h bs r o k =
-    let m = ltb-true (length line) (length bs) (sym (k .over) ∙ o) in
-    let t = eqb (getD bs (length bs - 1) 0) 13 in
-    rw (le-ltb (withoutCR bs) 256 (omega (arith, at-least t (length bs))))
+room-enough room bs r = go (ltb room (length bs)) refl
+  where
+    go : (t : Bool) → ltb room (length bs) ≡ t → cond t TooLong (endedOf bs) ≡ endedOf bs
+    go true m =
+        let l = at-least (eqb (getD bs (length bs - 1) 0) 13) (length bs) in
+        rw (le-ltb (withoutCR bs) 256 (omega (arith, r, l, ltb-true room (length bs) m)))
+    go false m = refl
 
 -- as many as are held
 pub all-held : (line : List ℕ) (h : Held) (bs : List ℕ) → h .over ≡ false → Holds line h bs → h .length ≡ length bs

@@ -1,4 +1,4 @@
--- A line's bytes as they come, whatever the reads cut them into. "A line's length, without its end, is at most 255 bytes."
+-- A line's bytes as they come, whatever the reads cut them into. docs/LINES.md: "What is left, blanks and comment included, is at most 255 bytes."
 -- Assumes nothing.
 use Prim.Native.Nat.{ℕ, _+_, _-_, _≤_, min}
 use mathlib.Core.Bool.{Bool, cond}
@@ -26,21 +26,25 @@ abbrev pub endsIn : List ℕ → ℕ → Bool
 endsIn chunk from = ltb (indexOf 10 (drop from chunk)) (length (drop from chunk))
 
 -- where the rest begins: past the LF, or past the chunk where there is none
-abbrev pub nextOf : List ℕ → ℕ → ℕ
-nextOf chunk from = from + indexOf 10 (drop from chunk) + cond (endsIn chunk from) 1 0
+abbrev pub pastLine : List ℕ → ℕ → ℕ
+pastLine chunk from = from + indexOf 10 (drop from chunk) + cond (endsIn chunk from) 1 0
 
 -- "a CR right before that end is no part of it"
 unfoldable pub withoutCR : List ℕ → ℕ
 withoutCR bs = cond (eqb (getD bs (length bs - 1) 0) 13) (length bs - 1) (length bs)
 
--- the length of a whole line's text, or that it is too long
+-- the length of a line's text, or that it is too long
 abbrev pub fittingOf : ℕ → Ended
 fittingOf n = cond (ltb n 256) (Text n) TooLong
 
 abbrev pub endedOf : List ℕ → Ended
 endedOf bs = fittingOf (withoutCR bs)
 
+-- in a buffer with room for so many bytes: a line that does not fit there is too long as well
+abbrev pub endedIn : ℕ → List ℕ → Ended
+endedIn room bs = cond (ltb room (length bs)) TooLong (endedOf bs)
+
 -- a text lies in its buffer
-abbrev pub Inside : Ended → ℕ → Type 0
-Inside (Text n) room = n ≤ room
-Inside TooLong room = Unit {0}
+abbrev pub InsideBuffer : Ended → ℕ → Type 0
+InsideBuffer (Text n) room = n ≤ room
+InsideBuffer TooLong room = Unit {0}

@@ -1,9 +1,9 @@
 // A line's bytes as they come, whatever the reads cut them into.
 ghost use mathlib.Core.List.{List, _∷_, [], _++_};
-ghost use Prim.Native.Nat.{ℕ, _<_, _≤_};
+ghost use Prim.Native.Nat.{ℕ, _<_};
 ghost use mathlib.Core.Path.{_≡_};
 ghost use lib.ListN.{length};
-ghost use Rattle.gather.specs.Lines.{Holds, partOf, endsIn, nextOf, fittingOf, endedOf, Inside};
+ghost use Rattle.gather.specs.Lines.{Holds, partOf, endsIn, pastLine, fittingOf, endedIn, InsideBuffer};
 
 // How many bytes of a line are held, and whether there were more than there is room for.
 pub struct Held {
@@ -48,7 +48,7 @@ fn keep(line: &mut [u8], held: Held, byte: u8) -> Held
 pub fn take(chunk: &[u8], from: usize, line: &mut [u8], held: Held) -> Gathered
     ensures { λ r. ⌜ length (now (line .exit)) ≡ length (now (line .entry)) ⌝ }
     ensures { λ r. ⌜ (from < length (now (chunk .entry)) → from < r .next) ⌝ }
-    ensures { λ r. ⌜ r .next ≡ nextOf (now (chunk .entry)) from ⌝ }
+    ensures { λ r. ⌜ r .next ≡ pastLine (now (chunk .entry)) from ⌝ }
     ensures { λ r. ⌜ r .ended ≡ endsIn (now (chunk .entry)) from ⌝ }
     ensures { λ r. ⌜ ((bs : List ℕ) → Holds (now (line .entry)) held bs → Holds (now (line .exit)) (r .held) (bs ++ partOf (now (chunk .entry)) from)) ⌝ }
 {
@@ -84,8 +84,8 @@ fn fitting(length: usize) -> Ended
 }
 
 pub fn end(line: &[u8], held: Held) -> Ended
-    ensures { λ r. ⌜ Inside r (length (now (line .entry))) ⌝ }
-    ensures { λ r. ⌜ ((bs : List ℕ) → 256 ≤ length (now (line .entry)) → Holds (now (line .entry)) held bs → r ≡ endedOf bs) ⌝ }
+    ensures { λ r. ⌜ InsideBuffer r (length (now (line .entry))) ⌝ }
+    ensures { λ r. ⌜ ((bs : List ℕ) → Holds (now (line .entry)) held bs → r ≡ endedIn (length (now (line .entry))) bs) ⌝ }
 {
     let n = held.length;
     if held.over {

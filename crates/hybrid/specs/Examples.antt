@@ -6,7 +6,7 @@ use mathlib.Core.Path.{_≡_, refl}
 use mathlib.Core.Bool.{Bool, true, false}
 use mathlib.Core.List.{List, [], _∷_}
 use lib.IntN.{pos, negsuc}
-use lib.Ieee.{nan, inf, fin, binary32, ofBits, sub, add, mul, div, ofInt}
+use lib.Ieee.{nan, inf, fin, binary32, ofBits, sub, mul, div, ofInt}
 use Rattle.counts.specs.Tests.{same, all}
 use Rattle.hybrid.specs.declared.Hybrid.{Hybrid}
 use Rattle.hybrid.specs.Hybrid.{quotientOf, finite, sizeOf, negative, wholePart}
@@ -40,5 +40,5 @@ least =
 
 -- of it, rated 1, q is 1000000 × 2^−149, still subnormal
 smallest : quotientOf least 1 ≡ fin false 15625 (negsuc 142)
-unfolding quotientOf ofBits sub add mul div ofInt
+unfolding quotientOf ofBits sub mul div ofInt
 smallest = refl

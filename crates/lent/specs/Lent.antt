@@ -1,4 +1,4 @@
--- "sheet N and the LENGTH words of the buffer after the call": what the writer leaves on a buffer that is lent to it.
+-- docs/LINES.md: "`sheet N` and the buffer's words after the call": what the writer leaves on a buffer that is lent to it.
 -- Assumes nothing.
 use Prim.Native.Nat.{ℕ, min}
 use mathlib.Core.List.{List}
@@ -8,7 +8,7 @@ use Rattle.settings.specs.Refusal.{verdictNumber}
 use Rattle.sheets.specs.declared.Writing.{Writing}
 use Rattle.writer.specs.Write.{writeVerdict, written}
 
--- "a buffer of LENGTH words that each hold DEADBEEF"; at most 32, a guard, since a line that is read lends no more
+-- "a buffer of LENGTH words (0 to 32) that each hold DEADBEEF"; 32 is a guard here, since a line that is read lends no more
 abbrev pub lentOf : Writing → List ℕ
 lentOf w = replicate (min (w .length) 32) 0xDEADBEEF
 

@@ -1,41 +1,45 @@
--- A line is put together of its first word's place, the keyword that it is, and what follows it.
+-- A line is put together of its first word's place, the word's number among the openings, and the cursors past it and at it.
 -- Assumes nothing.
 use Prim.Native.Nat.{ℕ}
 use mathlib.Core.Bool.{true, false}
-use mathlib.Core.List.{List}
-use mathlib.Core.Path.{_≡_, sym, ap, _∙_}
+use mathlib.Core.List.{List, map}
+use mathlib.Core.Path.{_≡_, ap, _∙_}
 use lib.Dec.{eqb}
-use lib.ListN.{length}
-use Rattle.cursors.specs.Cursor.{startOf, acceptOf, refuseOf}
+use lib.ListN.{length, getD}
+use Rattle.cursors.specs.Cursor.{lineStart, acceptOf, refuseOf}
 use Rattle.cursors.specs.declared.Cursor.{Cursor}
 use Rattle.cursors.specs.declared.Expected.the-variants as expected
+use Rattle.keywords.specs.Keywords.{whichOf, meanings}
 use Rattle.tokens.specs.declared.Span.{Span}
-use Rattle.tokens.specs.Words.{nextOf, bytesOf}
-use Rattle.lines.specs.declared.Keyword.{Keyword}
+use Rattle.tokens.specs.Words.{nextWord, bytesOf}
 use Rattle.lines.specs.declared.Line.{Line}
 use Rattle.lines.specs.declared.Line.the-variants as line
-use Rattle.lines.specs.Lines.{openingOf, kindIn, kindWith, kindOf}
+use Rattle.lines.specs.Lines.{lostAt, openings, openedBy, contentWith, contentOf}
 
 -- no word is left
-empty : (text : List ℕ) (w : Span) → eqb (w .start) (length text) ≡ true → line.Blank ≡ kindWith text w
+empty : (text : List ℕ) (w : Span) → eqb (w .start) (length text) ≡ true → line.Blank ≡ contentWith text w
 empty text w e = rw e
 
-pub blank : (text : List ℕ) {w : Span} → eqb (w .start) (length text) ≡ true → w ≡ nextOf text 0 → line.Blank ≡ kindOf text
-unfolding kindOf
-blank text {w} e placed = empty text w e ∙ ap (kindWith text) placed
+pub blank : (text : List ℕ) {w : Span} → eqb (w .start) (length text) ≡ true → w ≡ nextWord text 0 → line.Blank ≡ contentOf text
+unfolding contentOf
+blank text {w} e placed = empty text w e ∙ ap (contentWith text) placed
 
-worded : (text : List ℕ) (w : Span) → eqb (w .start) (length text) ≡ false
-    → kindIn text (openingOf (bytesOf text w)) (acceptOf startOf w) (refuseOf startOf w expected.Keyword) ≡ kindWith text w
-worded text w e = rw e
+opens : (text : List ℕ) (w : Span) → eqb (w .start) (length text) ≡ false → openedBy text w ≡ contentWith text w
+opens text w e = rw e
 
-pub says : (text : List ℕ) {w : Span} {k m : Keyword} {c next : Cursor} {r : Line} → r ≡ kindIn text m next (refuseOf c w expected.Keyword)
-    → k ≡ m → k ≡ openingOf (bytesOf text w) → next ≡ acceptOf c w → c ≡ startOf → eqb (w .start) (length text) ≡ false
-    → w ≡ nextOf text 0 → r ≡ kindOf text
-unfolding kindOf
-says text {w} {k} {m} {c} {next} {r} said known opened accepted started left placed =
+abbrev told : List ℕ → ℕ → Cursor → Cursor → Line
+told text n next unread = getD (meanings (openings text next)) n (lostAt unread)
+
+pub says : (text : List ℕ) {w : Span} {n : ℕ} {c next unread : Cursor} {r : Line} → r ≡ told text n next unread
+    → n ≡ whichOf (bytesOf text w) (map (λ row. row .0) (openings text next)) → next ≡ acceptOf c w → unread ≡ refuseOf c w expected.Keyword
+    → c ≡ lineStart → eqb (w .start) (length text) ≡ false → w ≡ nextWord text 0 → r ≡ contentOf text
+unfolding contentOf
+says text {w} {n} {c} {next} {unread} said number accepted refused started left placed =
+    let m = whichOf (bytesOf text w) (map (λ row. row .0) (openings text next)) in
     said
-    ∙ ap (λ k. kindIn text k next (refuseOf c w expected.Keyword)) (sym known ∙ opened)
-    ∙ ap (λ n. kindIn text (openingOf (bytesOf text w)) n (refuseOf c w expected.Keyword)) accepted
-    ∙ ap (λ s. kindIn text (openingOf (bytesOf text w)) (acceptOf s w) (refuseOf s w expected.Keyword)) started
-    ∙ worded text w left
-    ∙ ap (kindWith text) placed
+    ∙ ap (λ k. told text k next unread) number
+    ∙ ap (λ k. told text m k unread) accepted
+    ∙ ap (λ k. told text m (acceptOf c w) k) refused
+    ∙ ap (λ s. told text m (acceptOf s w) (refuseOf s w expected.Keyword)) started
+    ∙ opens text w left
+    ∙ ap (contentWith text) placed

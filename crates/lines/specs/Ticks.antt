@@ -1,33 +1,26 @@
 -- "tick HEX4 COMMAND at I32 SWITCHES STILL SET HEX8"
 -- Assumes nothing.
 use Prim.Native.Nat.{ℕ, _^_}
-use mathlib.Core.Bool.{Bool, true, false}
 use mathlib.Core.List.{List}
-use Rattle.numerals.specs.Signs.{signedOf}
+use Rattle.numerals.specs.Signs.{signedWhole}
 use Rattle.spelling.specs.Spelling.{spelledOf}
 use Rattle.cursors.specs.declared.Cursor.{Cursor}
 use Rattle.cursors.specs.declared.Expected.the-variants as expected
-use Rattle.choices.specs.Choices.{atOf, standstillOf, limitSetOf, switchesOf}
-use Rattle.cursors.specs.Cursor.{endOf}
-use Rattle.orders.specs.Orders.{commandOf}
-use Rattle.scanner.specs.Readings.{numberOf, wholeOf}
-use Rattle.torque.specs.declared.LimitSet.{LimitSet}
-use Rattle.torque.specs.declared.LimitSet.the-variants.{Set1, Set2}
+use Rattle.choices.specs.Choices.{atRead, standstillRead, setRead, switchesRead}
+use Rattle.cursors.specs.Cursor.{lineEnd}
+use Rattle.orders.specs.Orders.{commandRead}
+use Rattle.scanner.specs.Readings.{numberAt, wholeAt}
 use Rattle.lines.specs.declared.tick_line.TickRead.{TickRead}
-
-abbrev pub set1If : Bool → LimitSet
-set1If true = Set1
-set1If false = Set2
 
 unfoldable pub tickRead : List ℕ → Cursor → TickRead
 tickRead text c =
-    let control = numberOf (spelledOf 16 4) expected.Digits text c in
-    let asked = commandOf text (control .cursor) in
-    let position = wholeOf (signedOf (2 ^ 31)) text (atOf text (asked .cursor)) in
-    let switches = switchesOf text (position .cursor) in
-    let still = standstillOf text (switches .cursor) in
-    let set = limitSetOf text (still .cursor) in
-    let alarm = numberOf (spelledOf 16 8) expected.Digits text (set .cursor) in
+    let control = numberAt (spelledOf 16 4) expected.Digits text c in
+    let asked = commandRead text (control .cursor) in
+    let position = wholeAt (signedWhole (2 ^ 31)) text (atRead text (asked .cursor)) in
+    let switches = switchesRead text (position .cursor) in
+    let still = standstillRead text (switches .cursor) in
+    let set = setRead text (still .cursor) in
+    let alarm = numberAt (spelledOf 16 8) expected.Digits text (set .cursor) in
     record {
       tick =
           record {
@@ -36,8 +29,8 @@ tickRead text c =
             position = position .value;
             switches = switches .value;
             still = still .value;
-            set = set1If (set .value);
+            set = set .value;
             alarm = alarm .value;
           };
-      cursor = endOf text (alarm .cursor);
+      cursor = lineEnd text (alarm .cursor);
     }

@@ -6,21 +6,14 @@ use cursors::Expected;
 use sheets::Writing;
 use ticks::Tick;
 ghost use mathlib.Core.Path.{_≡_};
-ghost use Rattle.lines.specs.Lines.{columnOf, lostAt, freshLine, wordLine, tickLine, sheetLine, openingOf, kindOf, lineOf};
+ghost use lib.ListN.{getD};
+ghost use Rattle.keywords.specs.Keywords.{meanings};
+ghost use Rattle.lines.specs.Lines.{columnOf, lostAt, freshLine, wordLine, tickLine, sheetLine, openings, contentOf, lineOf};
 
 // A line that cannot be read: the column, from 1, and what was expected there.
 pub struct Trouble {
     pub column: usize,
     pub expected: Expected,
-}
-
-// The words that a line may open with.
-enum Keyword {
-    Word,
-    Tick,
-    Sheet,
-    Fresh,
-    Other,
 }
 
 pub enum Line {
@@ -99,25 +92,22 @@ fn one_sheet(text: &[u8], cursor: Cursor) -> Line
     }
 }
 
-fn opening(word: &[u8]) -> Keyword
-    ensures { λ r. ⌜ r ≡ openingOf (now (word .entry)) ⌝ }
+// A line by the number of its first word; `next` stands past the word, `unread` at it.
+fn opened(text: &[u8], number: usize, next: Cursor, unread: Cursor) -> Line
+    ensures { λ r. ⌜ r ≡ getD (meanings (openings (now (text .entry)) next)) number (lostAt unread) ⌝ }
 {
-    if tokens::same(word, b"word") {
-        Keyword::Word
-    } else if tokens::same(word, b"tick") {
-        Keyword::Tick
-    } else if tokens::same(word, b"sheet") {
-        Keyword::Sheet
-    } else if tokens::same(word, b"fresh") {
-        Keyword::Fresh
-    } else {
-        Keyword::Other
+    match number {
+        0 => settings_word(text, next),
+        1 => one_tick(text, next),
+        2 => one_sheet(text, next),
+        3 => fresh(text, next),
+        _ => lost(unread),
     }
 }
 
-// A text, its comment left out: its first word says what kind of line it is.
-fn kind(text: &[u8]) -> Line
-    ensures { λ r. ⌜ r ≡ kindOf (now (text .entry)) ⌝ }
+// A text, its comment left out: its first word says what it is.
+fn content(text: &[u8]) -> Line
+    ensures { λ r. ⌜ r ≡ contentOf (now (text .entry)) ⌝ }
 {
     let word = tokens::next(text, 0);
     let start = word.start;
@@ -125,15 +115,11 @@ fn kind(text: &[u8]) -> Line
     if start == text.len() {
         return Line::Blank;
     }
+    let number = keywords::which(&text[start..end], b"word\ntick\nsheet\nfresh\n");
     let cursor = Cursor::start();
     let next = cursor.accept(word);
-    match opening(&text[start..end]) {
-        Keyword::Word => settings_word(text, next),
-        Keyword::Tick => one_tick(text, next),
-        Keyword::Sheet => one_sheet(text, next),
-        Keyword::Fresh => fresh(text, next),
-        Keyword::Other => lost(cursor.refuse(word, Expected::Keyword)),
-    }
+    let unread = cursor.refuse(word, Expected::Keyword);
+    opened(text, number, next, unread)
 }
 
 // A line, without its end.
@@ -141,5 +127,5 @@ pub fn read(line: &[u8]) -> Line
     ensures { λ r. ⌜ r ≡ lineOf (now (line .entry)) ⌝ }
 {
     let end = tokens::find(line, b'#');
-    kind(&line[..end])
+    content(&line[..end])
 }

@@ -1,23 +1,12 @@
 // A tick's words: HEX4 COMMAND at I32 SWITCHES STILL SET HEX8.
 use cursors::Cursor;
 use ticks::Tick;
-use torque::LimitSet;
 ghost use mathlib.Core.Path.{_≡_};
-ghost use Rattle.lines.specs.Ticks.{set1If, tickRead};
+ghost use Rattle.lines.specs.Ticks.{tickRead};
 
 pub struct TickRead {
     pub tick: Tick,
     pub cursor: Cursor,
-}
-
-fn limit_set(first: bool) -> LimitSet
-    ensures { λ r. ⌜ r ≡ set1If first ⌝ }
-{
-    if first {
-        LimitSet::Set1
-    } else {
-        LimitSet::Set2
-    }
 }
 
 pub fn tick(text: &[u8], cursor: Cursor) -> TickRead
@@ -36,7 +25,8 @@ pub fn tick(text: &[u8], cursor: Cursor) -> TickRead
     let cursor = switches.cursor;
     let still = choices::standstill(text, cursor);
     let cursor = still.cursor;
-    let set = choices::limit_set(text, cursor);
+    let set = choices::set(text, cursor);
+    let limits = set.value;
     let cursor = set.cursor;
     let alarm = scanner::hexadecimal8(text, cursor);
     let cursor = alarm.cursor;
@@ -47,7 +37,7 @@ pub fn tick(text: &[u8], cursor: Cursor) -> TickRead
             position: position.value,
             switches: shown,
             still: still.value,
-            set: limit_set(set.value),
+            set: limits,
             alarm: alarm.value,
         },
         cursor: cursor.end(text),

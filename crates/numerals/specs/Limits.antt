@@ -13,10 +13,10 @@ abbrev pub belowOf : ℕ → Number → Number
 belowOf limit (Value n) = cond (ltb n limit) (Value n) Unreadable
 belowOf limit Unreadable = Unreadable
 
--- "U32: 1 to 10 decimal digits, below 2^32"
+-- "1 to 10 decimal digits with no sign, below 2^32"
 abbrev pub unsigned32Of : List ℕ → Number
 unsigned32Of bs = belowOf (2 ^ 32) (decimalOf bs)
 
--- "LENGTH is a decimal from 0 to 32"
+-- LENGTH, 0 to 32
 abbrev pub lengthOf : List ℕ → Number
 lengthOf bs = belowOf 33 (decimalOf bs)

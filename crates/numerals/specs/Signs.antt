@@ -13,19 +13,19 @@ use Rattle.numerals.specs.declared.Whole.the-variants as whole
 use Rattle.spelling.specs.Spelling.{decimalOf}
 
 -- a number with no sign, if it lies below `half`
-abbrev pub positiveOf : ℕ → Number → Whole
-positiveOf half (Value n) = cond (ltb n half) (whole.Value (pos n)) whole.Unreadable
-positiveOf half Unreadable = whole.Unreadable
+abbrev pub unsignedWhole : ℕ → Number → Whole
+unsignedWhole half (Value n) = cond (ltb n half) (whole.Value (pos n)) whole.Unreadable
+unsignedWhole half Unreadable = whole.Unreadable
 
 -- a number after a `-`, if it does not exceed `half`
-abbrev pub negativeOf : ℕ → Number → Whole
-negativeOf half (Value n) = cond (leb n half) (whole.Value (negℤ (pos n))) whole.Unreadable
-negativeOf half Unreadable = whole.Unreadable
+abbrev pub negatedWhole : ℕ → Number → Whole
+negatedWhole half (Value n) = cond (leb n half) (whole.Value (negℤ (pos n))) whole.Unreadable
+negatedWhole half Unreadable = whole.Unreadable
 
 -- from -half to half - 1
-abbrev pub signedOf : ℕ → List ℕ → Whole
-signedOf half [] = whole.Unreadable
-signedOf half (b ∷ bs) = cond (eqb b 45) (negativeOf half (decimalOf bs)) (positiveOf half (decimalOf (b ∷ bs)))
+abbrev pub signedWhole : ℕ → List ℕ → Whole
+signedWhole half [] = whole.Unreadable
+signedWhole half (b ∷ bs) = cond (eqb b 45) (negatedWhole half (decimalOf bs)) (unsignedWhole half (decimalOf (b ∷ bs)))
 
 -- a number that is read lies from -half to half - 1: `mag z` is n for n and for −(n + 1)
 abbrev pub Within : ℕ → Whole → Type 0

@@ -4,7 +4,7 @@ ghost use Prim.Native.Nat.{_≤_, _^_};
 ghost use mathlib.Core.Path.{_≡_};
 ghost use lib.IntN.{pos, negℤ};
 ghost use Rattle.numerals.specs.Limits.{belowOf, unsigned32Of, lengthOf};
-ghost use Rattle.numerals.specs.Signs.{positiveOf, negativeOf, signedOf, Within};
+ghost use Rattle.numerals.specs.Signs.{unsignedWhole, negatedWhole, signedWhole, Within};
 ghost use Rattle.spelling.specs.Spelling.{Below};
 
 pub enum Whole {
@@ -46,7 +46,7 @@ pub fn length(text: &[u8]) -> Number
 
 fn positive(number: Number, half: u64) -> Whole
     requires { ⌜ half ≤ 2 ^ 31 ⌝ }
-    ensures { λ r. ⌜ r ≡ positiveOf half number ⌝ }
+    ensures { λ r. ⌜ r ≡ unsignedWhole half number ⌝ }
 {
     match number {
         Number::Value(n) => {
@@ -69,7 +69,7 @@ fn negated(n: u64) -> i32
 
 fn negative(number: Number, half: u64) -> Whole
     requires { ⌜ half ≤ 2 ^ 31 ⌝ }
-    ensures { λ r. ⌜ r ≡ negativeOf half number ⌝ }
+    ensures { λ r. ⌜ r ≡ negatedWhole half number ⌝ }
 {
     match number {
         Number::Value(n) => {
@@ -85,7 +85,7 @@ fn negative(number: Number, half: u64) -> Whole
 
 fn signed(text: &[u8], half: u64) -> Whole
     requires { ⌜ half ≤ 2 ^ 31 ⌝ }
-    ensures { λ r. ⌜ r ≡ signedOf half (now (text .entry)) ⌝ }
+    ensures { λ r. ⌜ r ≡ signedWhole half (now (text .entry)) ⌝ }
 {
     if text.len() == 0 {
         return Whole::Unreadable;
@@ -99,7 +99,7 @@ fn signed(text: &[u8], half: u64) -> Whole
 
 // A signed number of 16 bits: an optional `-` and 1 to 10 decimal digits.
 pub fn whole16(text: &[u8]) -> Whole
-    ensures { λ r. ⌜ r ≡ signedOf (2 ^ 15) (now (text .entry)) ⌝ }
+    ensures { λ r. ⌜ r ≡ signedWhole (2 ^ 15) (now (text .entry)) ⌝ }
     ensures { λ r. ⌜ Within (2 ^ 15) r ⌝ }
 {
     signed(text, 0x8000)
@@ -107,7 +107,7 @@ pub fn whole16(text: &[u8]) -> Whole
 
 // A signed number of 32 bits.
 pub fn whole32(text: &[u8]) -> Whole
-    ensures { λ r. ⌜ r ≡ signedOf (2 ^ 31) (now (text .entry)) ⌝ }
+    ensures { λ r. ⌜ r ≡ signedWhole (2 ^ 31) (now (text .entry)) ⌝ }
 {
     signed(text, 0x80000000)
 }

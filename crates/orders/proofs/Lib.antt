@@ -1,1 +1,1 @@
-mod Asks
+mod Named

@@ -1,25 +1,23 @@
--- "COMMAND: `hybrid KP KD PD VD T P V` (floats) · `homing I16` · `position I32 I16` (target, request) · `torque I16` · `rest`."
+-- A tick's command: `hybrid` and the floats KP KD PD VD T P V, `homing I16`, `position I32 I16` (target, request), `torque I16` or `rest`.
 -- Assumes nothing.
 use Prim.Native.Nat.{ℕ, _^_}
-use mathlib.Core.Bool.{cond}
-use mathlib.Core.List.{List}
+use mathlib.Core.List.{List, [], _∷_}
 use lib.IntN.{ℤ}
 use Rattle.commands.specs.declared.Command.{Command}
 use Rattle.commands.specs.declared.Command.the-variants as command
-use Rattle.cursors.specs.Cursor.{acceptOf, refuseOf, placeOf}
+use Rattle.cursors.specs.Cursor.{acceptOf, refuseOf, spanAt}
 use Rattle.cursors.specs.declared.Cursor.{Cursor}
 use Rattle.cursors.specs.declared.Expected.the-variants as expected
-use Rattle.numerals.specs.Signs.{signedOf}
-use Rattle.scanner.specs.Readings.{wholeOf, floatAt}
+use Rattle.keywords.specs.Keywords.{meaningOf}
+use Rattle.numerals.specs.Signs.{signedWhole}
+use Rattle.scanner.specs.Readings.{wholeAt, floatAt}
 use Rattle.tokens.specs.declared.Span.{Span}
-use Rattle.tokens.specs.Ascii.{ascii, sameOf}
+use Rattle.tokens.specs.Ascii.{ascii}
 use Rattle.tokens.specs.Words.{bytesOf}
 use Rattle.orders.specs.declared.CommandRead.{CommandRead}
-use Rattle.orders.specs.declared.Name.{Name}
-use Rattle.orders.specs.declared.Name.the-variants as name
 
-unfoldable pub hybridOf : List ℕ → Cursor → CommandRead
-hybridOf text c =
+unfoldable pub hybridRead : List ℕ → Cursor → CommandRead
+hybridRead text c =
     let kp = floatAt text c in
     let kd = floatAt text (kp .cursor) in
     let pd = floatAt text (kd .cursor) in
@@ -33,36 +31,33 @@ hybridOf text c =
     }
 
 -- a command of one torque request
-abbrev pub requestOf : (ℤ → Command) → List ℕ → Cursor → CommandRead
-requestOf make text c =
-    let request = wholeOf (signedOf (2 ^ 15)) text c in
+abbrev pub requestRead : (ℤ → Command) → List ℕ → Cursor → CommandRead
+requestRead make text c =
+    let request = wholeAt (signedWhole (2 ^ 15)) text c in
     record { command = make (request .value); cursor = request .cursor }
 
-abbrev pub positionOf : List ℕ → Cursor → CommandRead
-positionOf text c =
-    let goal = wholeOf (signedOf (2 ^ 31)) text c in
-    let request = wholeOf (signedOf (2 ^ 15)) text (goal .cursor) in
+abbrev pub positionRead : List ℕ → Cursor → CommandRead
+positionRead text c =
+    let goal = wholeAt (signedWhole (2 ^ 31)) text c in
+    let request = wholeAt (signedWhole (2 ^ 15)) text (goal .cursor) in
     record { command = command.Position (goal .value) (request .value); cursor = request .cursor }
 
-abbrev pub namedOf : List ℕ → Name
-namedOf word =
-    cond (sameOf word (ascii "hybrid")) name.Hybrid
-    (cond (sameOf word (ascii "homing")) name.Homing
-    (cond (sameOf word (ascii "position")) name.Position
-    (cond (sameOf word (ascii "torque")) name.Torque
-    (cond (sameOf word (ascii "rest")) name.Rest name.Other))))
+-- a command by its name; `next` is the cursor past the name
+abbrev pub commands : List ℕ → Cursor → List (List ℕ × CommandRead)
+commands text next =
+    (ascii "hybrid", hybridRead text next)
+    ∷ (ascii "homing", requestRead command.Homing text next)
+    ∷ (ascii "position", positionRead text next)
+    ∷ (ascii "torque", requestRead command.Torque text next)
+    ∷ (ascii "rest", record { command = command.Rest; cursor = next })
+    ∷ []
 
--- a command by its name; `next` is the cursor past the name, `lost` the cursor at it
-abbrev pub commandIn : List ℕ → Name → Cursor → Cursor → CommandRead
-commandIn text name.Hybrid next lost = hybridOf text next
-commandIn text name.Homing next lost = requestOf command.Homing text next
-commandIn text name.Position next lost = positionOf text next
-commandIn text name.Torque next lost = requestOf command.Torque text next
-commandIn text name.Rest next lost = record { command = command.Rest; cursor = next }
-commandIn text name.Other next lost = record { command = command.Rest; cursor = lost }
+-- no command; `lost` is the cursor at the word
+abbrev pub noCommand : Cursor → CommandRead
+noCommand lost = record { command = command.Rest; cursor = lost }
 
 abbrev pub commandWith : List ℕ → Cursor → Span → CommandRead
-commandWith text c place = commandIn text (namedOf (bytesOf text place)) (acceptOf c place) (refuseOf c place expected.Command)
+commandWith text c place = meaningOf (bytesOf text place) (commands text (acceptOf c place)) (noCommand (refuseOf c place expected.Command))
 
-unfoldable pub commandOf : List ℕ → Cursor → CommandRead
-commandOf text c = commandWith text c (placeOf text c)
+unfoldable pub commandRead : List ℕ → Cursor → CommandRead
+commandRead text c = commandWith text c (spanAt text c)

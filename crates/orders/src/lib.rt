@@ -4,16 +4,9 @@ use cursors::Cursor;
 use cursors::Expected;
 use hybrid::Hybrid;
 ghost use mathlib.Core.Path.{_≡_};
-ghost use Rattle.orders.specs.Orders.{hybridOf, requestOf, positionOf, namedOf, commandOf};
-
-enum Name {
-    Hybrid,
-    Homing,
-    Position,
-    Torque,
-    Rest,
-    Other,
-}
+ghost use lib.ListN.{getD};
+ghost use Rattle.keywords.specs.Keywords.{meanings};
+ghost use Rattle.orders.specs.Orders.{hybridRead, requestRead, positionRead, commands, noCommand, commandRead};
 
 pub struct CommandRead {
     pub command: Command,
@@ -22,7 +15,7 @@ pub struct CommandRead {
 
 // KP KD PD VD T P V.
 fn hybrid(text: &[u8], cursor: Cursor) -> CommandRead
-    ensures { λ r. ⌜ r ≡ hybridOf (now (text .entry)) cursor ⌝ }
+    ensures { λ r. ⌜ r ≡ hybridRead (now (text .entry)) cursor ⌝ }
 {
     let kp = scanner::float(text, cursor);
     let cursor = kp.cursor;
@@ -53,7 +46,7 @@ fn hybrid(text: &[u8], cursor: Cursor) -> CommandRead
 }
 
 fn homing(text: &[u8], cursor: Cursor) -> CommandRead
-    ensures { λ r. ⌜ r ≡ requestOf Command.Homing (now (text .entry)) cursor ⌝ }
+    ensures { λ r. ⌜ r ≡ requestRead Command.Homing (now (text .entry)) cursor ⌝ }
 {
     let request = scanner::whole16(text, cursor);
     let cursor = request.cursor;
@@ -64,7 +57,7 @@ fn homing(text: &[u8], cursor: Cursor) -> CommandRead
 }
 
 fn position(text: &[u8], cursor: Cursor) -> CommandRead
-    ensures { λ r. ⌜ r ≡ positionOf (now (text .entry)) cursor ⌝ }
+    ensures { λ r. ⌜ r ≡ positionRead (now (text .entry)) cursor ⌝ }
 {
     let goal = scanner::whole32(text, cursor);
     let cursor = goal.cursor;
@@ -77,7 +70,7 @@ fn position(text: &[u8], cursor: Cursor) -> CommandRead
 }
 
 fn torque(text: &[u8], cursor: Cursor) -> CommandRead
-    ensures { λ r. ⌜ r ≡ requestOf Command.Torque (now (text .entry)) cursor ⌝ }
+    ensures { λ r. ⌜ r ≡ requestRead Command.Torque (now (text .entry)) cursor ⌝ }
 {
     let request = scanner::whole16(text, cursor);
     let cursor = request.cursor;
@@ -87,43 +80,37 @@ fn torque(text: &[u8], cursor: Cursor) -> CommandRead
     }
 }
 
-fn named(word: &[u8]) -> Name
-    ensures { λ r. ⌜ r ≡ namedOf (now (word .entry)) ⌝ }
+// A command by the number of its name; `next` stands past the name, `lost` at it.
+fn numbered(text: &[u8], number: usize, next: Cursor, lost: Cursor) -> CommandRead
+    ensures { λ r. ⌜ r ≡ getD (meanings (commands (now (text .entry)) next)) number (noCommand lost) ⌝ }
 {
-    if tokens::same(word, b"hybrid") {
-        Name::Hybrid
-    } else if tokens::same(word, b"homing") {
-        Name::Homing
-    } else if tokens::same(word, b"position") {
-        Name::Position
-    } else if tokens::same(word, b"torque") {
-        Name::Torque
-    } else if tokens::same(word, b"rest") {
-        Name::Rest
-    } else {
-        Name::Other
+    match number {
+        0 => hybrid(text, next),
+        1 => homing(text, next),
+        2 => position(text, next),
+        3 => torque(text, next),
+        4 => CommandRead {
+            command: Command::Rest,
+            cursor: next,
+        },
+        _ => CommandRead {
+            command: Command::Rest,
+            cursor: lost,
+        },
     }
 }
 
 pub fn command(text: &[u8], cursor: Cursor) -> CommandRead
-    ensures { λ r. ⌜ r ≡ commandOf (now (text .entry)) cursor ⌝ }
+    ensures { λ r. ⌜ r ≡ commandRead (now (text .entry)) cursor ⌝ }
 {
     let word = tokens::next(text, cursor.at);
     let start = word.start;
     let end = word.end;
+    let number = keywords::which(
+        &text[start..end],
+        b"hybrid\nhoming\nposition\ntorque\nrest\n",
+    );
     let next = cursor.accept(word);
-    match named(&text[start..end]) {
-        Name::Hybrid => hybrid(text, next),
-        Name::Homing => homing(text, next),
-        Name::Position => position(text, next),
-        Name::Torque => torque(text, next),
-        Name::Rest => CommandRead {
-            command: Command::Rest,
-            cursor: next,
-        },
-        Name::Other => CommandRead {
-            command: Command::Rest,
-            cursor: cursor.refuse(word, Expected::Command),
-        },
-    }
+    let lost = cursor.refuse(word, Expected::Command);
+    numbered(text, number, next, lost)
 }

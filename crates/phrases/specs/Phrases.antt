@@ -10,12 +10,12 @@ abbrev pub pastOf : List ℕ → ℕ → ℕ
 pastOf list from = min (from + indexOf 10 (drop from list) + 1) (length list)
 
 -- where the phrase with the number n starts, from 0
-unfoldable pub startOf : ℕ → List ℕ → ℕ
-startOf zero list = 0
-startOf (suc n) list = pastOf list (startOf n list)
+unfoldable pub phraseStart : ℕ → List ℕ → ℕ
+phraseStart zero list = 0
+phraseStart (suc n) list = pastOf list (phraseStart n list)
 
 abbrev pub fromOf : List ℕ → ℕ → List ℕ
 fromOf list from = take (pastOf list from - from) (drop from list)
 
 unfoldable pub nthOf : ℕ → List ℕ → List ℕ
-nthOf n list = fromOf list (startOf n list)
+nthOf n list = fromOf list (phraseStart n list)

@@ -7,14 +7,14 @@ ghost use Rattle.numerals.specs.Writing as writing;
 ghost use Rattle.page.specs.Page.{Printed};
 ghost use Rattle.phrases.specs.Phrases.{pastOf, nthOf};
 
-pub fn count(out: &mut [u8], at: usize, name: &[u8], number: u64) -> usize
+pub fn named_decimal(out: &mut [u8], at: usize, name: &[u8], number: u64) -> usize
     ensures { λ r. ⌜ Printed (now (out .entry)) at (now (name .entry) ++ writing.decimal number) (now (out .exit)) r ⌝ }
 {
     let at = page::text(out, at, name);
     figures::decimal(out, at, number)
 }
 
-pub fn whole(out: &mut [u8], at: usize, name: &[u8], number: i32) -> usize
+pub fn named_whole(out: &mut [u8], at: usize, name: &[u8], number: i32) -> usize
     ensures { λ r. ⌜ Printed (now (out .entry)) at (now (name .entry) ++ writing.whole number) (now (out .exit)) r ⌝ }
 {
     let at = page::text(out, at, name);

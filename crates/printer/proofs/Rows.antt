@@ -6,7 +6,7 @@ use mathlib.Core.Path.{_≡_, refl}
 use native.Mathlib.Omega.{arith}
 use borrow.Author.Tests.{ne-eqb}
 use Rattle.bytes.specs.Bytes.{indexOf}
-use Rattle.phrases.specs.Phrases.{nthOf, startOf}
+use Rattle.phrases.specs.Phrases.{nthOf, phraseStart}
 use Rattle.tokens.specs.Ascii.{ascii}
 use Rattle.printer.specs.Texts.{tradeRow, tradeWord}
 
@@ -14,7 +14,7 @@ abbrev pub trade-words : List ℕ
 trade-words = ascii "\n  out of turn\n  strange layout\n  out of range\n  bad sum\n  stops crossed\n  out of reach\n  axis live\n  no sheet\n  short buffer\n"
 
 pub trade-row : (n : ℕ) → nthOf (tradeRow n) trade-words ≡ tradeWord n
-unfolding nthOf startOf indexOf
+unfolding nthOf phraseStart indexOf
 trade-row zero = refl
 trade-row (suc zero) = refl
 trade-row (suc (suc zero)) = refl

@@ -1,4 +1,5 @@
--- Answers as text: "one space between words", and after a number other than 0 two spaces and 01's trade word.
+-- Answers as text, with one space between words. docs/LINES.md: "Where N is not 0 it is the number of a refusal, and the answer ends in two spaces
+-- and its name".
 -- Assumes nothing.
 use Prim.Native.Nat.{ℕ, min}
 use mathlib.Core.Bool.{cond}
@@ -51,6 +52,6 @@ unfoldable pub wordsText : List ℕ → List ℕ
 wordsText [] = []
 wordsText (w ∷ ws) = (32 ∷ []) ++ hexadecimal 8 w ++ wordsText ws
 
--- "sheet N and the LENGTH words of the buffer after the call"
+-- "`sheet N` and the buffer's words after the call"
 abbrev pub sheetText : ℕ → List ℕ → List ℕ
 sheetText n buffer = ascii "sheet " ++ decimal n ++ wordsText buffer ++ tradeWord n

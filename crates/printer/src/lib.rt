@@ -32,17 +32,17 @@ pub fn fresh(out: &mut [u8]) -> usize
 pub fn word(out: &mut [u8], number: u32) -> usize
     ensures { λ r. ⌜ Printed (now (out .entry)) 0 (wordText number) (now (out .exit)) r ⌝ }
 {
-    let at = phrases::count(out, 0, b"word ", number as u64);
+    let at = phrases::named_decimal(out, 0, b"word ", number as u64);
     trade_word(out, at, number)
 }
 
 fn motion(out: &mut [u8], answer: Answer) -> usize
     ensures { λ r. ⌜ Printed (now (out .entry)) 0 (motionText answer) (now (out .exit)) r ⌝ }
 {
-    let at = phrases::count(out, 0, b"tick ", answer.number as u64);
-    let at = phrases::whole(out, at, b" torque ", answer.torque);
-    let at = phrases::whole(out, at, b" speed ", answer.speed);
-    phrases::whole(out, at, b" position ", answer.position)
+    let at = phrases::named_decimal(out, 0, b"tick ", answer.number as u64);
+    let at = phrases::named_whole(out, at, b" torque ", answer.torque);
+    let at = phrases::named_whole(out, at, b" speed ", answer.speed);
+    phrases::named_whole(out, at, b" position ", answer.position)
 }
 
 pub fn tick(out: &mut [u8], answer: Answer) -> usize
@@ -51,8 +51,8 @@ pub fn tick(out: &mut [u8], answer: Answer) -> usize
     let at = motion(out, answer);
     let at = page::text(out, at, b" status ");
     let at = figures::hexadecimal(out, at, answer.status as u64, 4);
-    let at = phrases::whole(out, at, b" mode ", answer.mode);
-    let at = phrases::count(out, at, b" alarm ", answer.alarm as u64);
+    let at = phrases::named_whole(out, at, b" mode ", answer.mode);
+    let at = phrases::named_decimal(out, at, b" alarm ", answer.alarm as u64);
     trade_word(out, at, answer.number)
 }
 
@@ -73,7 +73,7 @@ fn buffer_words(out: &mut [u8], at: usize, buffer: &[u32]) -> usize
 pub fn sheet(out: &mut [u8], number: u32, buffer: &[u32]) -> usize
     ensures { λ r. ⌜ Printed (now (out .entry)) 0 (sheetText number (now (buffer .entry))) (now (out .exit)) r ⌝ }
 {
-    let at = phrases::count(out, 0, b"sheet ", number as u64);
+    let at = phrases::named_decimal(out, 0, b"sheet ", number as u64);
     let at = buffer_words(out, at, buffer);
     trade_word(out, at, number)
 }

@@ -25,8 +25,8 @@ use Rattle.ticks.specs.declared.Tick.{Tick}
 use Rattle.answers.specs.declared.Answer.{Answer}
 
 -- past the last stand zeros
-abbrev pub floatAt : List Float → ℕ → Float
-floatAt f k = getD f k (ofBits binary32 0)
+abbrev pub floatIn : List Float → ℕ → Float
+floatIn f k = getD f k (ofBits binary32 0)
 
 -- a word read as signed
 abbrev pub signedAt : List ℕ → ℕ → ℤ
@@ -51,13 +51,13 @@ set2If false = Set1
 unfoldable pub gainsIn : List Float → Hybrid
 gainsIn f =
     record {
-      kp = floatAt f 0;
-      kd = floatAt f 1;
-      pd = floatAt f 2;
-      vd = floatAt f 3;
-      t = floatAt f 4;
-      p = floatAt f 5;
-      v = floatAt f 6;
+      kp = floatIn f 0;
+      kd = floatIn f 1;
+      pd = floatIn f 2;
+      vd = floatIn f 3;
+      t = floatIn f 4;
+      p = floatIn f 5;
+      v = floatIn f 6;
     }
 
 unfoldable pub commandIn : List ℕ → List Float → Command

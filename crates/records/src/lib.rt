@@ -11,7 +11,7 @@ ghost use mathlib.Core.Path.{_≡_};
 ghost use lib.ListN.{length};
 ghost use lib.Seq.{sets};
 ghost use Rattle.patterns.specs.Patterns.{wordAt};
-ghost use Rattle.records.specs.Words.{floatAt, signedAt, controlIn, requestAt, gainsIn, set2If, commandIn, tickIn, settingsOfFields, answerWords, sevenOf};
+ghost use Rattle.records.specs.Words.{floatIn, signedAt, controlIn, requestAt, gainsIn, set2If, commandIn, tickIn, settingsOfFields, answerWords, sevenOf};
 
 // A word; 0 past the last.
 fn word(words: &[u32], at: usize) -> u32
@@ -22,7 +22,7 @@ fn word(words: &[u32], at: usize) -> u32
 
 // A float; 0 past the last.
 fn float(floats: &[f32], at: usize) -> f32
-    ensures { λ r. ⌜ r ≡ floatAt (now (floats .entry)) at ⌝ }
+    ensures { λ r. ⌜ r ≡ floatIn (now (floats .entry)) at ⌝ }
 {
     if at < floats.len() { floats[at] } else { 0.0 }
 }

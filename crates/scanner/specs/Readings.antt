@@ -4,13 +4,13 @@ use Prim.Native.Nat.{ℕ}
 use mathlib.Core.List.{List}
 use lib.Ieee as Ieee
 use lib.IntN.{pos}
-use Rattle.cursors.specs.Cursor.{acceptOf, refuseOf, placeOf, wordOf}
+use Rattle.cursors.specs.Cursor.{acceptOf, refuseOf, spanAt, bytesAt}
 use Rattle.cursors.specs.declared.Cursor.{Cursor}
 use Rattle.cursors.specs.declared.Expected.{Expected}
 use Rattle.cursors.specs.declared.Expected.the-variants as expected
 use Rattle.floats.specs.declared.Float.{Float}
 use Rattle.floats.specs.declared.Float.the-variants as float
-use Rattle.floats.specs.Literal.{floatOf}
+use Rattle.floats.specs.Literal.{spelledFloat}
 use Rattle.spelling.specs.declared.Number.{Number}
 use Rattle.spelling.specs.declared.Number.the-variants as number
 use Rattle.numerals.specs.declared.Whole.{Whole}
@@ -25,19 +25,19 @@ abbrev pub numberRead : Cursor → Span → Expected → Number → NumberRead
 numberRead c w e (number.Value n) = record { value = n; cursor = acceptOf c w }
 numberRead c w e number.Unreadable = record { value = 0; cursor = refuseOf c w e }
 
-unfoldable pub numberOf : (List ℕ → Number) → Expected → List ℕ → Cursor → NumberRead
-numberOf spelling e text c = numberRead c (placeOf text c) e (spelling (wordOf text c))
+unfoldable pub numberAt : (List ℕ → Number) → Expected → List ℕ → Cursor → NumberRead
+numberAt spelling e text c = numberRead c (spanAt text c) e (spelling (bytesAt text c))
 
 abbrev pub wholeRead : Cursor → Span → Whole → WholeRead
 wholeRead c w (whole.Value z) = record { value = z; cursor = acceptOf c w }
 wholeRead c w whole.Unreadable = record { value = pos 0; cursor = refuseOf c w expected.Whole }
 
-unfoldable pub wholeOf : (List ℕ → Whole) → List ℕ → Cursor → WholeRead
-wholeOf spelling text c = wholeRead c (placeOf text c) (spelling (wordOf text c))
+unfoldable pub wholeAt : (List ℕ → Whole) → List ℕ → Cursor → WholeRead
+wholeAt spelling text c = wholeRead c (spanAt text c) (spelling (bytesAt text c))
 
 abbrev pub floatRead : Cursor → Span → Float → FloatRead
 floatRead c w (float.Value x) = record { value = x; cursor = acceptOf c w }
 floatRead c w float.Unreadable = record { value = Ieee.ofBits Ieee.binary32 0; cursor = refuseOf c w expected.Float }
 
 unfoldable pub floatAt : List ℕ → Cursor → FloatRead
-floatAt text c = floatRead c (placeOf text c) (floatOf (wordOf text c))
+floatAt text c = floatRead c (spanAt text c) (spelledFloat (bytesAt text c))

@@ -8,10 +8,10 @@ use tokens::Span;
 ghost use Prim.Native.Nat.{_<_, _^_};
 ghost use mathlib.Core.Path.{_≡_};
 ghost use lib.Signed.{mag};
-ghost use Rattle.numerals.specs.Signs.{signedOf};
+ghost use Rattle.numerals.specs.Signs.{signedWhole};
 ghost use Rattle.numerals.specs.Limits.{unsigned32Of, lengthOf};
 ghost use Rattle.spelling.specs.Spelling.{spelledOf, Below};
-ghost use Rattle.scanner.specs.Readings.{numberRead, numberOf, wholeRead, wholeOf, floatAt};
+ghost use Rattle.scanner.specs.Readings.{numberRead, numberAt, wholeRead, wholeAt, floatAt};
 
 // Values read, each of no meaning where the cursor is lost.
 pub struct NumberRead {
@@ -62,7 +62,7 @@ fn whole(cursor: Cursor, word: Span, number: Whole) -> WholeRead
 
 // HEX4.
 pub fn hexadecimal4(text: &[u8], cursor: Cursor) -> NumberRead
-    ensures { λ r. ⌜ r ≡ numberOf (spelledOf 16 4) Expected.Digits (now (text .entry)) cursor ⌝ }
+    ensures { λ r. ⌜ r ≡ numberAt (spelledOf 16 4) Expected.Digits (now (text .entry)) cursor ⌝ }
     ensures { λ r. ⌜ r .value < 2 ^ 16 ⌝ }
 {
     let word = tokens::next(text, cursor.at);
@@ -78,7 +78,7 @@ pub fn hexadecimal4(text: &[u8], cursor: Cursor) -> NumberRead
 
 // HEX8.
 pub fn hexadecimal8(text: &[u8], cursor: Cursor) -> NumberRead
-    ensures { λ r. ⌜ r ≡ numberOf (spelledOf 16 8) Expected.Digits (now (text .entry)) cursor ⌝ }
+    ensures { λ r. ⌜ r ≡ numberAt (spelledOf 16 8) Expected.Digits (now (text .entry)) cursor ⌝ }
 {
     let word = tokens::next(text, cursor.at);
     let start = word.start;
@@ -91,9 +91,9 @@ pub fn hexadecimal8(text: &[u8], cursor: Cursor) -> NumberRead
     )
 }
 
-// U32.
+// 1 to 10 decimal digits with no sign, below 2^32.
 pub fn unsigned(text: &[u8], cursor: Cursor) -> NumberRead
-    ensures { λ r. ⌜ r ≡ numberOf (unsigned32Of) Expected.Whole (now (text .entry)) cursor ⌝ }
+    ensures { λ r. ⌜ r ≡ numberAt (unsigned32Of) Expected.Whole (now (text .entry)) cursor ⌝ }
 {
     let word = tokens::next(text, cursor.at);
     let start = word.start;
@@ -108,7 +108,7 @@ pub fn unsigned(text: &[u8], cursor: Cursor) -> NumberRead
 
 // LENGTH, of a buffer that is lent.
 pub fn length(text: &[u8], cursor: Cursor) -> NumberRead
-    ensures { λ r. ⌜ r ≡ numberOf (lengthOf) Expected.Whole (now (text .entry)) cursor ⌝ }
+    ensures { λ r. ⌜ r ≡ numberAt (lengthOf) Expected.Whole (now (text .entry)) cursor ⌝ }
     ensures { λ r. ⌜ r .value < 33 ⌝ }
 {
     let word = tokens::next(text, cursor.at);
@@ -124,7 +124,7 @@ pub fn length(text: &[u8], cursor: Cursor) -> NumberRead
 
 // I16.
 pub fn whole16(text: &[u8], cursor: Cursor) -> WholeRead
-    ensures { λ r. ⌜ r ≡ wholeOf (signedOf (2 ^ 15)) (now (text .entry)) cursor ⌝ }
+    ensures { λ r. ⌜ r ≡ wholeAt (signedWhole (2 ^ 15)) (now (text .entry)) cursor ⌝ }
     ensures { λ r. ⌜ mag (r .value) < 2 ^ 15 ⌝ }
 {
     let word = tokens::next(text, cursor.at);
@@ -135,7 +135,7 @@ pub fn whole16(text: &[u8], cursor: Cursor) -> WholeRead
 
 // I32.
 pub fn whole32(text: &[u8], cursor: Cursor) -> WholeRead
-    ensures { λ r. ⌜ r ≡ wholeOf (signedOf (2 ^ 31)) (now (text .entry)) cursor ⌝ }
+    ensures { λ r. ⌜ r ≡ wholeAt (signedWhole (2 ^ 31)) (now (text .entry)) cursor ⌝ }
 {
     let word = tokens::next(text, cursor.at);
     let start = word.start;

@@ -1,12 +1,12 @@
 -- Every answer fits its page: each part of a text has a bound, and the bounds add up.
 -- Assumes nothing.
 use Prim.Native.Nat.{ℕ, zero, suc, _+_, _*_, _/_, _%_, _≤_, min}
-use mathlib.Core.Bool.{Bool, true, false, cond}
+use mathlib.Core.Bool.{Bool, true, false, cond, _||_}
 use mathlib.Core.List.{List, [], _∷_, _++_}
 use mathlib.Core.Path.{_≡_, refl}
 use native.Mathlib.Omega.{arith}
 use borrow.Author.Tests.{ltb-false}
-use lib.Dec.{eqb, ltb}
+use lib.Dec.{eqb, ltb, leb}
 use lib.IntN.{ℤ, pos, negsuc}
 use lib.ListN.{length, drop, length-append, length-drop, length-replicate}
 use Rattle.settings.specs.declared.Settings.{Settings}
@@ -16,12 +16,12 @@ use Rattle.settings.specs.Refusal.{verdictNumber}
 use Rattle.answers.specs.declared.Answer.{Answer}
 use Rattle.words.specs.Encode.{valuesOf, wordsOf}
 use Rattle.words.proofs.Words.{length-sealed}
-use Rattle.writer.specs.Write.{writeVerdict, leftBy, written}
+use Rattle.writer.specs.Write.{writeVerdict, bufferAfter, written}
 use Rattle.sheets.specs.declared.Writing.{Writing}
-use Rattle.numerals.specs.Writing.{glyph, hexadecimal, digits, whole}
+use Rattle.numerals.specs.Writing.{glyph, digits, hexadecimal, decimal, whole}
 use Rattle.tokens.specs.Ascii.{ascii}
 use Rattle.printer.specs.Texts.{tradeWord, wordText, motionText, tickText, wordsText}
-use Rattle.complaints.specs.Texts.{expectedText, placeText}
+use Rattle.complaints.specs.Texts.{expectedText, lineAndColumnText}
 use Rattle.cursors.specs.declared.Expected.{Expected}
 use Rattle.cursors.specs.declared.Expected.the-variants.{Keyword, Digits, Whole, Float, Command, At, Switches, Standstill, Set, End}
 use Rattle.lent.specs.Lent.{lentOf, writtenText}
@@ -51,20 +51,21 @@ within h k = is (omega (arith, h .short, k))
 
 -- ---- numbers
 
-digits-short : (places n : ℕ) → Short places (digits places n)
+digits-short : (base : ℕ) (zeros : Bool) (places n : ℕ) → Short places (digits base zeros places n)
 unfolding digits
-digits-short zero n = is (omega arith)
-digits-short (suc places) n =
-    either (ltb n 10) (is (omega arith)) (within (both (digits-short places (n / 10)) (all (glyph (n % 10) ∷ []))) (omega arith))
+digits-short base zeros zero n = is (omega arith)
+digits-short base zeros (suc places) n =
+    within (both (either (zeros || leb base n) (digits-short base zeros places (n / base)) (is (omega arith))) (all (glyph (n % base) ∷ []))) (omega arith)
 
 hexadecimal-short : (places n : ℕ) → Short places (hexadecimal places n)
-unfolding hexadecimal
-hexadecimal-short zero n = is (omega arith)
-hexadecimal-short (suc places) n = within (both (hexadecimal-short places (n / 16)) (all (glyph (n % 16) ∷ []))) (omega arith)
+hexadecimal-short places n = digits-short 16 true places n
+
+decimal-short : (n : ℕ) → Short 20 (decimal n)
+decimal-short n = digits-short 10 false 20 n
 
 whole-short : (z : ℤ) → Short 21 (whole z)
-whole-short (pos n) = within (digits-short 20 n) (omega arith)
-whole-short (negsuc n) = is (omega (arith, digits-short 20 (suc n) .short))
+whole-short (pos n) = within (decimal-short n) (omega arith)
+whole-short (negsuc n) = is (omega (arith, decimal-short (suc n) .short))
 
 -- ---- texts
 
@@ -79,7 +80,7 @@ trade-short n =
     (either (eqb n 6) (is (omega arith)) (either (eqb n 7) (is (omega arith)) (either (eqb n 8) (is (omega arith)) (is (omega arith))))))))))
 
 word-short : (n : ℕ) → Short 512 (wordText n)
-word-short n = within (both (both (all (ascii "word ")) (digits-short 20 n)) (trade-short n)) (omega arith)
+word-short n = within (both (both (all (ascii "word ")) (decimal-short n)) (trade-short n)) (omega arith)
 
 tick-short : (a : Answer) → Short 512 (tickText a)
 unfolding motionText tickText
@@ -91,12 +92,12 @@ tick-short a =
     (both
     (both
     (both
-    (both (both (both (all (ascii "tick ")) (digits-short 20 (a .number))) (both (all (ascii " torque ")) (whole-short (a .torque)))) (both (all (ascii " speed ")) (whole-short (a .speed))))
+    (both (both (both (all (ascii "tick ")) (decimal-short (a .number))) (both (all (ascii " torque ")) (whole-short (a .torque)))) (both (all (ascii " speed ")) (whole-short (a .speed))))
     (both (all (ascii " position ")) (whole-short (a .position))))
     (all (ascii " status ")))
     (hexadecimal-short 4 (a .status)))
     (both (all (ascii " mode ")) (whole-short (a .mode))))
-    (both (all (ascii " alarm ")) (digits-short 20 (a .alarm))))
+    (both (all (ascii " alarm ")) (decimal-short (a .alarm))))
     (trade-short (a .number)))
     (omega arith)
 
@@ -110,7 +111,7 @@ kept : (s : Settings) (buffer : List ℕ) → length (written s buffer) ≡ leng
 unfolding writeVerdict wordsOf valuesOf
 kept s buffer = go (ltb (length buffer) 15) refl
   where
-    filled : (v : Verdict) → 15 ≤ length buffer → length (leftBy v s buffer) ≡ length buffer
+    filled : (v : Verdict) → 15 ≤ length buffer → length (bufferAfter v s buffer) ≡ length buffer
     filled Accepted h = omega (arith, h, length-append (wordsOf s) (drop 15 buffer), length-sealed (valuesOf s), length-drop 15 buffer)
     filled (Refused r) h = refl
 
@@ -122,12 +123,12 @@ sheet-short : (w : Writing) → Short 512 (writtenText w)
 sheet-short w =
     let n = verdictNumber (writeVerdict (w .settings) (lentOf w)) in
     let ws = written (w .settings) (lentOf w) in
-    within (both (both (both (all (ascii "sheet ")) (digits-short 20 n)) (words-short ws)) (trade-short n))
+    within (both (both (both (all (ascii "sheet ")) (decimal-short n)) (words-short ws)) (trade-short n))
     (omega (arith, kept (w .settings) (lentOf w), length-replicate {A = ℕ} (min (w .length) 32) 0xDEADBEEF))
 
-place-short : (line column : ℕ) → Short 52 (placeText line column)
-place-short line column =
-    within (both (both (all (ascii "unreadable ")) (digits-short 20 line)) (both (all (32 ∷ [])) (digits-short 20 column))) (omega arith)
+line-and-column-short : (line column : ℕ) → Short 52 (lineAndColumnText line column)
+line-and-column-short line column =
+    within (both (both (all (ascii "unreadable ")) (decimal-short line)) (both (all (32 ∷ [])) (decimal-short column))) (omega arith)
 
 expected-short : (e : Expected) → Short 37 (expectedText e)
 expected-short Keyword = is (omega arith)
@@ -142,7 +143,7 @@ expected-short Set = is (omega arith)
 expected-short End = is (omega arith)
 
 pub long-fits : LongFits
-long-fits line = within {n = 512} (both (place-short line 256) (all (ascii " line too long\n"))) (omega arith) .short
+long-fits line = within {n = 512} (both (line-and-column-short line 256) (all (ascii " line too long\n"))) (omega arith) .short
 
 pub fits : Fits
 fits s Blank = omega arith
@@ -150,4 +151,4 @@ fits s Fresh = omega arith
 fits s (Word w) = word-short (verdictNumber (wordOf (s .axis) w .verdict)) .short
 fits s (Tick t) = tick-short (tickOf (s .axis) t .answer) .short
 fits s (Sheet w) = sheet-short w .short
-fits s (Unreadable t) = within {n = 512} (both (place-short (s .lines) (t .column)) (expected-short (t .expected))) (omega arith) .short
+fits s (Unreadable t) = within {n = 512} (both (line-and-column-short (s .lines) (t .column)) (expected-short (t .expected))) (omega arith) .short

@@ -1,4 +1,4 @@
--- "one line in, one line out, in order": what a line does to the axis, and its answer.
+-- docs/LINES.md: "One line in, one line out, in order": what a line does to the axis, and its answer.
 -- Assumes nothing.
 use Prim.Native.Nat.{ℕ, _+_, _%_, _^_, _≤_}
 use mathlib.Core.List.{List, []}
@@ -15,7 +15,7 @@ use Rattle.page.specs.Page.{Printed}
 use Rattle.complaints.specs.Texts.{unreadableText, longText}
 use Rattle.printer.specs.Texts.{freshText, wordText, tickText}
 use Rattle.settings.specs.Refusal.{verdictNumber}
-use Rattle.session.specs.declared.Answered.{Answered}
+use Rattle.session.specs.declared.Turn.{Turn}
 use Rattle.session.specs.declared.Session.{Session}
 
 -- an axis, and how many lines have come so far
@@ -37,14 +37,14 @@ counted s = record { axis = s .axis; lines = (s .lines + 1) % 2 ^ 64 }
 abbrev pub withAxis : Conversation → Axis → Conversation
 withAxis s a = record { axis = a; lines = s .lines }
 
--- the axis after a line: "the axis is left alone" by the writer and by what cannot be read
-abbrev pub nextOf : Conversation → Line → Conversation
-nextOf s Blank = s
-nextOf s Fresh = withAxis s freshAxis
-nextOf s (Word w) = withAxis s (wordOf (s .axis) w .axis)
-nextOf s (Tick t) = withAxis s (tickOf (s .axis) t .axis)
-nextOf s (Sheet w) = s
-nextOf s (Unreadable t) = s
+-- the axis after a line: by the writer "the axis is left alone", and a line that cannot be read "changes nothing"
+abbrev pub conversationAfter : Conversation → Line → Conversation
+conversationAfter s Blank = s
+conversationAfter s Fresh = withAxis s freshAxis
+conversationAfter s (Word w) = withAxis s (wordOf (s .axis) w .axis)
+conversationAfter s (Tick t) = withAxis s (tickOf (s .axis) t .axis)
+conversationAfter s (Sheet w) = s
+conversationAfter s (Unreadable t) = s
 
 abbrev pub textOf : Conversation → Line → List ℕ
 textOf s Blank = []
@@ -55,7 +55,7 @@ textOf s (Sheet w) = writtenText w
 textOf s (Unreadable t) = unreadableText (s .lines) t
 
 -- the session then means s, and the text is printed on the page
-abbrev pub Answers : List ℕ → List ℕ → Answered → Conversation → List ℕ → Type 0
+abbrev pub Answers : List ℕ → List ℕ → Turn → Conversation → List ℕ → Type 0
 Answers page page′ r s text = (meant (r .session) ≡ s) × Printed page 0 text page′ (r .length)
 
 -- every answer fits a page of 512 bytes

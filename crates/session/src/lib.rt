@@ -5,7 +5,7 @@ use ticks::Tick;
 ghost use mathlib.Core.Path.{_≡_};
 ghost use Rattle.lines.specs.Lines.{lineOf};
 ghost use Rattle.complaints.specs.Texts.{longText};
-ghost use Rattle.session.specs.Answering.{meant, freshConversation, counted, nextOf, textOf, Answers};
+ghost use Rattle.session.specs.Answering.{meant, freshConversation, counted, conversationAfter, textOf, Answers};
 
 pub struct Session {
     // The axis's words.
@@ -15,7 +15,7 @@ pub struct Session {
 }
 
 // A session after a line, and the length of the answer on the page; 0 where the line gets none.
-pub struct Answered {
+pub struct Turn {
     pub session: Session,
     pub length: usize,
 }
@@ -29,47 +29,47 @@ impl Session {
         Session { axis, lines: 0 }
     }
 
-    fn count(mut self) -> Session
+    fn count_line(mut self) -> Session
         ensures { λ r. ⌜ meant r ≡ counted (meant self) ⌝ }
     {
         self.lines = std::num::wrapping_add_u64(self.lines, 1);
         self
     }
 
-    fn word(mut self, word: u32, out: &mut [u8]) -> Answered
-        ensures { λ r. ⌜ Answers (now (out .entry)) (now (out .exit)) r (nextOf (meant self) (Line.Word word)) (textOf (meant self) (Line.Word word)) ⌝ }
+    fn word(mut self, word: u32, out: &mut [u8]) -> Turn
+        ensures { λ r. ⌜ Answers (now (out .entry)) (now (out .exit)) r (conversationAfter (meant self) (Line.Word word)) (textOf (meant self) (Line.Word word)) ⌝ }
     {
         let verdict = axis::word(&mut self.axis, word);
         let length = printer::word(out, settings::verdict_number(verdict));
-        Answered {
+        Turn {
             session: self,
             length,
         }
     }
 
-    fn tick(mut self, tick: Tick, out: &mut [u8]) -> Answered
-        ensures { λ r. ⌜ Answers (now (out .entry)) (now (out .exit)) r (nextOf (meant self) (Line.Tick tick)) (textOf (meant self) (Line.Tick tick)) ⌝ }
+    fn tick(mut self, tick: Tick, out: &mut [u8]) -> Turn
+        ensures { λ r. ⌜ Answers (now (out .entry)) (now (out .exit)) r (conversationAfter (meant self) (Line.Tick tick)) (textOf (meant self) (Line.Tick tick)) ⌝ }
     {
         let answer = axis::tick(&mut self.axis, tick);
         let length = printer::tick(out, answer);
-        Answered {
+        Turn {
             session: self,
             length,
         }
     }
 
-    fn act(mut self, line: Line, out: &mut [u8]) -> Answered
-        ensures { λ r. ⌜ Answers (now (out .entry)) (now (out .exit)) r (nextOf (meant self) line) (textOf (meant self) line) ⌝ }
+    fn act(mut self, line: Line, out: &mut [u8]) -> Turn
+        ensures { λ r. ⌜ Answers (now (out .entry)) (now (out .exit)) r (conversationAfter (meant self) line) (textOf (meant self) line) ⌝ }
     {
         match line {
-            Line::Blank => Answered {
+            Line::Blank => Turn {
                 session: self,
                 length: 0,
             },
             Line::Fresh => {
                 axis::fresh(&mut self.axis);
                 let length = printer::fresh(out);
-                Answered {
+                Turn {
                     session: self,
                     length,
                 }
@@ -78,14 +78,14 @@ impl Session {
             Line::Tick(tick) => self.tick(tick, out),
             Line::Sheet(writing) => {
                 let length = lent::write(writing, out);
-                Answered {
+                Turn {
                     session: self,
                     length,
                 }
             }
             Line::Unreadable(trouble) => {
                 let length = complaints::unreadable(out, self.lines, trouble);
-                Answered {
+                Turn {
                     session: self,
                     length,
                 }
@@ -94,19 +94,19 @@ impl Session {
     }
 
     // A line, without its end, and its answer.
-    pub fn line(self, line: &[u8], out: &mut [u8]) -> Answered
-        ensures { λ r. ⌜ Answers (now (out .entry)) (now (out .exit)) r (nextOf (counted (meant self)) (lineOf (now (line .entry)))) (textOf (counted (meant self)) (lineOf (now (line .entry)))) ⌝ }
+    pub fn line(self, line: &[u8], out: &mut [u8]) -> Turn
+        ensures { λ r. ⌜ Answers (now (out .entry)) (now (out .exit)) r (conversationAfter (counted (meant self)) (lineOf (now (line .entry)))) (textOf (counted (meant self)) (lineOf (now (line .entry)))) ⌝ }
     {
-        let session = self.count();
+        let session = self.count_line();
         session.act(lines::read(line), out)
     }
 
     // A line of more than 255 bytes.
-    pub fn long_line(self, out: &mut [u8]) -> Answered
+    pub fn long_line(self, out: &mut [u8]) -> Turn
         ensures { λ r. ⌜ Answers (now (out .entry)) (now (out .exit)) r (counted (meant self)) (longText (counted (meant self) .lines)) ⌝ }
     {
-        let session = self.count();
+        let session = self.count_line();
         let length = complaints::too_long(out, session.lines);
-        Answered { session, length }
+        Turn { session, length }
     }
 }

@@ -1,40 +1,40 @@
--- "sheet LENGTH METHOD FAST SLOW OFFSET NUM DEN LOWER UPPER MAX P1 N1 P2 N2 OPTION RATED"; "OFFSET, LOWER and UPPER are I32; the others U32"
+-- "sheet LENGTH METHOD FAST SLOW OFFSET NUM DEN LOWER UPPER MAX P1 N1 P2 N2 OPTION RATED"; "OFFSET, LOWER and UPPER are I32"
 -- Assumes nothing.
 use Prim.Native.Nat.{ℕ, _^_}
 use mathlib.Core.List.{List}
-use Rattle.numerals.specs.Signs.{signedOf}
+use Rattle.numerals.specs.Signs.{signedWhole}
 use Rattle.numerals.specs.Limits.{unsigned32Of, lengthOf}
 use Rattle.cursors.specs.declared.Cursor.{Cursor}
 use Rattle.cursors.specs.declared.Expected.the-variants as expected
 use Rattle.scanner.specs.declared.NumberRead.{NumberRead}
 use Rattle.scanner.specs.declared.WholeRead.{WholeRead}
-use Rattle.cursors.specs.Cursor.{endOf}
-use Rattle.scanner.specs.Readings.{numberOf, wholeOf}
+use Rattle.cursors.specs.Cursor.{lineEnd}
+use Rattle.scanner.specs.Readings.{numberAt, wholeAt}
 use Rattle.sheets.specs.declared.HomingRead.{HomingRead}
 use Rattle.sheets.specs.declared.TravelRead.{TravelRead}
 use Rattle.sheets.specs.declared.TorquesRead.{TorquesRead}
 use Rattle.sheets.specs.declared.WritingRead.{WritingRead}
 
 abbrev unsignedAt : List ℕ → Cursor → NumberRead
-unsignedAt text c = numberOf unsigned32Of expected.Whole text c
+unsignedAt text c = numberAt unsigned32Of expected.Whole text c
 
-abbrev wholeAt : List ℕ → Cursor → WholeRead
-wholeAt text c = wholeOf (signedOf (2 ^ 31)) text c
+abbrev whole32At : List ℕ → Cursor → WholeRead
+whole32At text c = wholeAt (signedWhole (2 ^ 31)) text c
 
 unfoldable pub homingRead : List ℕ → Cursor → HomingRead
 homingRead text c =
     let method = unsignedAt text c in
     let fast = unsignedAt text (method .cursor) in
     let slow = unsignedAt text (fast .cursor) in
-    let offset = wholeAt text (slow .cursor) in
+    let offset = whole32At text (slow .cursor) in
     record { method = method .value; fast = fast .value; slow = slow .value; offset = offset .value; cursor = offset .cursor }
 
 unfoldable pub travelRead : List ℕ → Cursor → TravelRead
 travelRead text c =
     let numerator = unsignedAt text c in
     let denominator = unsignedAt text (numerator .cursor) in
-    let lower = wholeAt text (denominator .cursor) in
-    let upper = wholeAt text (lower .cursor) in
+    let lower = whole32At text (denominator .cursor) in
+    let upper = whole32At text (lower .cursor) in
     record { numerator = numerator .value; denominator = denominator .value; lower = lower .value; upper = upper .value; cursor = upper .cursor }
 
 unfoldable pub torquesRead : List ℕ → Cursor → TorquesRead
@@ -50,7 +50,7 @@ torquesRead text c =
 
 unfoldable pub sheetRead : List ℕ → Cursor → WritingRead
 sheetRead text c =
-    let length = numberOf lengthOf expected.Whole text c in
+    let length = numberAt lengthOf expected.Whole text c in
     let homing = homingRead text (length .cursor) in
     let travel = travelRead text (homing .cursor) in
     let torques = torquesRead text (travel .cursor) in
@@ -77,5 +77,5 @@ sheetRead text c =
                   rated = torques .rated;
                 };
           };
-      cursor = endOf text (torques .cursor);
+      cursor = lineEnd text (torques .cursor);
     }

@@ -12,16 +12,16 @@ use lib.ListN.{length, drop, getD}
 use lib.Seq.{drop-cons}
 use Rattle.spelling.specs.declared.Number.{Number}
 use Rattle.spelling.specs.declared.Number.the-variants.{Value, Unreadable}
-use Rattle.spelling.specs.Spelling.{digitOf, spelledFrom, spelledOf, Below}
+use Rattle.spelling.specs.Spelling.{digitValue, spelledFrom, spelledOf, Below}
 
 -- the digit at i is read
-pub further : (base v : ℕ) (bs : List ℕ) (i : ℕ) → i < length bs → ltb (digitOf (getD bs i 0)) base ≡ true
-    → spelledFrom base v (drop i bs) ≡ spelledFrom base (v * base + digitOf (getD bs i 0)) (drop (suc i) bs)
+pub further : (base v : ℕ) (bs : List ℕ) (i : ℕ) → i < length bs → ltb (digitValue (getD bs i 0)) base ≡ true
+    → spelledFrom base v (drop i bs) ≡ spelledFrom base (v * base + digitValue (getD bs i 0)) (drop (suc i) bs)
 unfolding spelledFrom
 further base v bs i h t = rw (drop-cons bs i 0 h, t)
 
 -- the byte at i is no digit
-pub stops : (base v : ℕ) (bs : List ℕ) (i : ℕ) → i < length bs → ltb (digitOf (getD bs i 0)) base ≡ false
+pub stops : (base v : ℕ) (bs : List ℕ) (i : ℕ) → i < length bs → ltb (digitValue (getD bs i 0)) base ≡ false
     → spelledFrom base v (drop i bs) ≡ Unreadable
 unfolding spelledFrom
 stops base v bs i h t = rw (drop-cons bs i 0 h, t)
@@ -38,10 +38,10 @@ pub spelled-below : (base v : ℕ) (bs : List ℕ) (i : ℕ) → v < base ^ i
 unfolding spelledFrom
 spelled-below base v [] i h = subst (λ (k : ℕ). v < base ^ k) (omega arith) h
 spelled-below base v (x ∷ bs) i h =
-    below-if (ltb (digitOf x) base) (base ^ (i + suc (length bs))) (spelledFrom base (v * base + digitOf x) bs)
+    below-if (ltb (digitValue x) base) (base ^ (i + suc (length bs))) (spelledFrom base (v * base + digitValue x) bs)
     (λ e.
-    subst (λ (k : ℕ). Below (base ^ k) (spelledFrom base (v * base + digitOf x) bs)) (omega arith)
-    (spelled-below base (v * base + digitOf x) bs (suc i) (reach base v (digitOf x) i h (ltb-true (digitOf x) base e))))
+    subst (λ (k : ℕ). Below (base ^ k) (spelledFrom base (v * base + digitValue x) bs)) (omega arith)
+    (spelled-below base (v * base + digitValue x) bs (suc i) (reach base v (digitValue x) i h (ltb-true (digitValue x) base e))))
 
 and-right : (a b : Bool) → a && b ≡ true → b ≡ true
 and-right true b e = e

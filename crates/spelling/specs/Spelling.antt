@@ -10,13 +10,13 @@ use Rattle.spelling.specs.declared.Number.{Number}
 use Rattle.spelling.specs.declared.Number.the-variants.{Value, Unreadable}
 
 -- the value of a digit: `0` to `9`, `A` to `F` or `a` to `f`; 16 for any other byte
-unfoldable pub digitOf : ℕ → ℕ
-digitOf b = cond (between 48 57 b) (b - 48) (cond (between 65 70 b) (b - 55) (cond (between 97 102 b) (b - 87) 16))
+unfoldable pub digitValue : ℕ → ℕ
+digitValue b = cond (between 48 57 b) (b - 48) (cond (between 65 70 b) (b - 55) (cond (between 97 102 b) (b - 87) 16))
 
 -- what digits of a base spell after digits that spell v
 unfoldable pub spelledFrom : ℕ → ℕ → List ℕ → Number
 spelledFrom base v [] = Value v
-spelledFrom base v (b ∷ bs) = cond (ltb (digitOf b) base) (spelledFrom base (v * base + digitOf b) bs) Unreadable
+spelledFrom base v (b ∷ bs) = cond (ltb (digitValue b) base) (spelledFrom base (v * base + digitValue b) bs) Unreadable
 
 -- what 1 to `most` digits spell
 unfoldable pub spelledOf : ℕ → ℕ → List ℕ → Number

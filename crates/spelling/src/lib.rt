@@ -1,7 +1,7 @@
 // What digits spell, in ASCII.
 ghost use Prim.Native.Nat.{_≤_, _^_};
 ghost use mathlib.Core.Path.{_≡_};
-ghost use Rattle.spelling.specs.Spelling.{digitOf, spelledOf, decimalOf, Below};
+ghost use Rattle.spelling.specs.Spelling.{digitValue, spelledOf, decimalOf, Below};
 
 // What some bytes spell.
 pub enum Number {
@@ -11,7 +11,7 @@ pub enum Number {
 
 // The value of a digit of either case; 16 where the byte is no digit.
 fn digit(byte: u8) -> u64
-    ensures { λ r. ⌜ r ≡ digitOf byte ⌝ }
+    ensures { λ r. ⌜ r ≡ digitValue byte ⌝ }
 {
     match byte {
         48..=57 => (byte - 48) as u64,

@@ -4,7 +4,7 @@ ghost use mathlib.Core.Path.{_≡_};
 ghost use lib.ListN.{length};
 ghost use Rattle.bytes.specs.Bytes.{indexOf};
 ghost use Rattle.tokens.specs.Ascii.{sameOf};
-ghost use Rattle.tokens.specs.Words.{blankOf, kindOf, skipOf, nextOf, Inside};
+ghost use Rattle.tokens.specs.Words.{blankOf, blankIs, skipOf, nextWord, SpanIn};
 
 // The place of a word: its first byte, and one past its last.
 pub struct Span {
@@ -18,8 +18,8 @@ fn is_blank(byte: u8) -> bool
     (byte == 32) | (byte == 9)
 }
 
-fn is_kind(blank: bool, byte: u8) -> bool
-    ensures { λ r. ⌜ r ≡ kindOf blank byte ⌝ }
+fn blank_is(blank: bool, byte: u8) -> bool
+    ensures { λ r. ⌜ r ≡ blankIs blank byte ⌝ }
 {
     if blank {
         is_blank(byte)
@@ -36,7 +36,7 @@ fn skip(blank: bool, text: &[u8], at: usize) -> usize
 {
     let mut i = at;
     while i < text.len() {
-        if is_kind(blank, text[i]) {
+        if blank_is(blank, text[i]) {
             i += 1;
         } else {
             return i;
@@ -47,8 +47,8 @@ fn skip(blank: bool, text: &[u8], at: usize) -> usize
 
 // The next word from `at` on; empty, at the end, where there is none.
 pub fn next(text: &[u8], at: usize) -> Span
-    ensures { λ r. ⌜ r ≡ nextOf (now (text .entry)) at ⌝ }
-    ensures { λ r. ⌜ Inside r (now (text .entry)) ⌝ }
+    ensures { λ r. ⌜ r ≡ nextWord (now (text .entry)) at ⌝ }
+    ensures { λ r. ⌜ SpanIn r (now (text .entry)) ⌝ }
 {
     let start = skip(true, text, at);
     let end = skip(false, text, start);

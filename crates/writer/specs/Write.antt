@@ -20,9 +20,9 @@ unfoldable pub writeVerdict : Settings → List ℕ → Verdict
 writeVerdict s buffer = cond (bufferTooShort buffer) (Refused BufferTooShort) (verdictOf s)
 
 -- what the buffer holds after a verdict
-abbrev pub leftBy : Verdict → Settings → List ℕ → List ℕ
-leftBy Accepted s buffer = wordsOf s ++ drop 15 buffer
-leftBy (Refused r) s buffer = buffer
+abbrev pub bufferAfter : Verdict → Settings → List ℕ → List ℕ
+bufferAfter Accepted s buffer = wordsOf s ++ drop 15 buffer
+bufferAfter (Refused r) s buffer = buffer
 
 abbrev pub written : Settings → List ℕ → List ℕ
-written s buffer = leftBy (writeVerdict s buffer) s buffer
+written s buffer = bufferAfter (writeVerdict s buffer) s buffer

@@ -5,7 +5,7 @@ use Rattle.tokens.specs.Ascii.{ascii, sameOf}
 use Rattle.tokens.specs.Words.{bytesOf}
 use Rattle.cursors.specs.declared.Expected.the-variants.{At}
 use Rattle.cursors.specs.Cursor.{judgeOf}
-use Rattle.choices.specs.Choices.{atOf}
+use Rattle.choices.specs.Choices.{atRead}
 use borrow.Author.Needs.{needs}
 use Rattle.choices.proofs.at.Statement.{statement}
 use Rattle.choices.proofs.at.Tie as tie
@@ -32,7 +32,7 @@ judge-requires : tie.Need-judge-requires
 judge-requires c κs = search needs
 
 returns : tie.Need-returns
-unfolding atOf
+unfolding atRead
 returns c =
     let a = c .before .before .before .before .before .before .args in
     let w = c .before .before .before .before .next .result in

@@ -5,8 +5,8 @@ use borrow.Author.Needs.{needs}
 use Rattle.complaints.proofs.unreadable.Statement.{statement}
 use Rattle.complaints.proofs.unreadable.Tie as tie
 
-place-requires : tie.Need-place-requires
-place-requires c κs = search needs
+line-and-column-requires : tie.Need-line-and-column-requires
+line-and-column-requires c κs = search needs
 
 expected-requires : tie.Need-expected-requires
 expected-requires c κs = search needs
@@ -16,8 +16,8 @@ same-length c = search needs
 
 returns : tie.Need-returns
 returns c =
-    c .before .before .before .before .before .before .place .ensures
+    c .before .before .before .before .before .before .line-and-column .ensures
     ⨾ c .before .before .expected .ensures
 
 pub unreadable-spec : {M : Type 1} → statement M
-unreadable-spec = tie.close (tie.spec place-requires expected-requires same-length returns)
+unreadable-spec = tie.close (tie.spec line-and-column-requires expected-requires same-length returns)

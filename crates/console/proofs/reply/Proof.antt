@@ -4,7 +4,7 @@ use mathlib.Core.Path.{sym, subst, _∙_}
 use native.Mathlib.Omega.{arith}
 use lib.ListN.{length, take}
 use lib.Seq.{length-take-le}
-use Rattle.gather.specs.Lines.{Inside}
+use Rattle.gather.specs.Lines.{InsideBuffer}
 use Rattle.lines.specs.Lines.{lineOf}
 use Rattle.session.specs.Answering.{meant, counted}
 use Rattle.session.proofs.Fits.{fits, long-fits}
@@ -24,7 +24,7 @@ slice-aggregate-line : tie.Need-slice-aggregate-line
 slice-aggregate-line c =
     let n = c .before .before .n .given in
     let line = c .before .before .before .before .before .before .before .args .line .now in
-    sym (length-take-le (n .0 .0) line (subst (λ r. Inside r (length line)) (n .1) (c .before .before .before .before .end .ensures .0)))
+    sym (length-take-le (n .0 .0) line (subst (λ r. InsideBuffer r (length line)) (n .1) (c .before .before .before .before .end .ensures .0)))
 
 line-requires : tie.Need-line-requires
 line-requires c κs = search needs
@@ -47,10 +47,10 @@ returns c =
     let n = m .n .given .0 .0 in (
       on-page (l .1),
       (
-        λ bs r k. l .0 ∙ text-answered (meant (a .session)) (a .line .now) (a .held) bs n r k (sym (e .end .ensures .1 bs r k) ∙ m .n .given .1),
+        λ bs r k. l .0 ∙ text-answered (meant (a .session)) (a .line .now) bs r (a .held) n k (sym (e .end .ensures .1 bs k) ∙ m .n .given .1),
         λ bs r o k.
             whole-on-page (omega (arith, fits (counted (meant (a .session))) (lineOf (take n (a .line .now))), o)) (l .1)
-            ∙ text-printed (meant (a .session)) (a .line .now) (a .held) bs n r k (sym (e .end .ensures .1 bs r k) ∙ m .n .given .1),
+            ∙ text-printed (meant (a .session)) (a .line .now) bs r (a .held) n k (sym (e .end .ensures .1 bs k) ∙ m .n .given .1),
       ),
     )
 
@@ -65,10 +65,10 @@ returns-2 c =
     let a = e .before .before .before .args in (
       on-page (l .1),
       (
-        λ bs r k. l .0 ∙ long-answered (meant (a .session)) bs (sym (e .end .ensures .1 bs r k) ∙ m .enum-told .given .1),
+        λ bs r k. l .0 ∙ long-answered (meant (a .session)) (a .line .now) bs r (sym (e .end .ensures .1 bs k) ∙ m .enum-told .given .1),
         λ bs r o k.
             whole-on-page (omega (arith, long-fits (counted (meant (a .session)) .lines), o)) (l .1)
-            ∙ long-printed (meant (a .session)) bs (sym (e .end .ensures .1 bs r k) ∙ m .enum-told .given .1),
+            ∙ long-printed (meant (a .session)) (a .line .now) bs r (sym (e .end .ensures .1 bs k) ∙ m .enum-told .given .1),
       ),
     )
 

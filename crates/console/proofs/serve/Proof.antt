@@ -5,20 +5,20 @@ use mathlib.Core.Path.{_≡_, refl, sym, subst, _∙_}
 use native.Mathlib.Omega.{arith}
 use lib.ListN.{length}
 use borrow.Author.Needs.{needs}
-use Rattle.console.specs.Stream.{Stream, Stands, Moved}
+use Rattle.console.specs.Stream.{Stream, InStep, StillInStep}
 use Rattle.console.proofs.Streams.{moved-on, moved-through}
 use Rattle.console.proofs.serve.Statement.{statement}
 use Rattle.console.proofs.serve.Tie as tie
 
 abbrev Inv-loop : tie.InvT-loop
 Inv-loop chunk line₀ now₀ i₀ line now i =
-    (length line ≡ length line₀) × ((st : Stream) → 256 ≤ length line₀ → Stands line₀ now₀ st → Moved chunk 0 i line now st)
+    (length line ≡ length line₀) × ((st : Stream) → 256 ≤ length line₀ → InStep line₀ now₀ st → StillInStep chunk 0 i line now st)
 
 abbrev μ-loop : tie.MeasureT-loop
 μ-loop chunk line₀ now₀ i₀ line now i = length chunk - i
 
 loop-holds : tie.Need-loop-holds Inv-loop μ-loop
-loop-holds c = (refl, λ st r b. record { stream = st; stands = b; rest = refl })
+loop-holds c = (refl, λ st r b. record { stream = st; in-step = b; rest = refl })
 
 take-line-requires : tie.Need-take-line-requires Inv-loop μ-loop
 take-line-requires c κs = search needs
@@ -37,7 +37,7 @@ loop-again c =
     let n : length (t .last .1 .1 .1 .0) ≡ length (l .line) = search needs in (
       n ∙ l .inv .0,
       λ st r b.
-          let m = l .inv .1 st r b in moved-on m (t .ensures .1 (m .stream) (subst (λ (k : ℕ). 256 ≤ k) (sym (l .inv .0)) r) (m .stands)),
+          let m = l .inv .1 st r b in moved-on m (t .ensures .1 (m .stream) (subst (λ (k : ℕ). 256 ≤ k) (sym (l .inv .0)) r) (m .in-step)),
     )
 
 same-length : tie.Need-same-length Inv-loop μ-loop

@@ -1,6 +1,6 @@
 -- `floats::quotient` meets its contract.
 -- Assumes nothing.
-use Rattle.floats.specs.Literal.{quotientOf}
+use Rattle.floats.specs.Literal.{quotientFloat}
 use borrow.Author.Needs.{needs}
 use Rattle.floats.proofs.quotient.Statement.{statement}
 use Rattle.floats.proofs.quotient.Tie as tie
@@ -12,7 +12,7 @@ nearest-u32-to-f32-requires-2 : tie.Need-nearest-u32-to-f32-requires-2
 nearest-u32-to-f32-requires-2 c κs = search needs
 
 returns : tie.Need-returns
-unfolding quotientOf
+unfolding quotientFloat
 returns c = rw (c .before .nearest-u32-to-f32 .ensures, c .nearest-u32-to-f322 .ensures)
 
 pub quotient-spec : {M : Type 1} → statement M

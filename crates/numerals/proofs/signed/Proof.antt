@@ -5,7 +5,7 @@ use mathlib.Core.Path.{sym, ap, _∙_}
 use native.Mathlib.Omega.{arith}
 use lib.ListN.{length, drop, length-drop}
 use lib.Seq.{take-all}
-use Rattle.numerals.specs.Signs.{positiveOf, negativeOf}
+use Rattle.numerals.specs.Signs.{unsignedWhole, negatedWhole}
 use Rattle.spelling.specs.Spelling.{decimalOf}
 use Rattle.numerals.proofs.Signs.{no-text, minus-first, no-minus}
 use borrow.Author.Needs.{needs}
@@ -44,14 +44,14 @@ returns-2 c =
     let a = c .before .before .before .before .before .before .before .args in
     let bs = a .text .now in
     c .negative .ensures
-    ∙ ap (negativeOf (a .half)) (c .before .decimal .ensures ∙ ap decimalOf (take-all (length bs - 1) (drop 1 bs) (omega (arith, length-drop 1 bs))))
+    ∙ ap (negatedWhole (a .half)) (c .before .decimal .ensures ∙ ap decimalOf (take-all (length bs - 1) (drop 1 bs) (omega (arith, length-drop 1 bs))))
     ∙ sym (minus-first (a .half) bs (omega arith) (c .before .before .before .if2 .taken))
 
 returns-3 : tie.Need-returns-3
 returns-3 c =
     let a = c .before .before .before .before .before .before .args in
     c .positive .ensures
-    ∙ ap (positiveOf (a .half)) (c .before .decimal2 .ensures)
+    ∙ ap (unsignedWhole (a .half)) (c .before .decimal2 .ensures)
     ∙ sym (no-minus (a .half) (a .text .now) (omega arith) (c .before .before .if2 .left))
 
 pub signed-spec : {M : Type 1} → statement M

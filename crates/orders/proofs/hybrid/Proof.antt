@@ -1,6 +1,6 @@
 -- `orders::hybrid` meets its contract: seven floats, one after the other.
 -- Assumes nothing.
-use Rattle.orders.specs.Orders.{hybridOf}
+use Rattle.orders.specs.Orders.{hybridRead}
 use borrow.Author.Needs.{needs}
 use Rattle.orders.proofs.hybrid.Statement.{statement}
 use Rattle.orders.proofs.hybrid.Tie as tie
@@ -27,8 +27,16 @@ float-requires-7 : tie.Need-float-requires-7
 float-requires-7 c κs = search needs
 
 returns : tie.Need-returns
-unfolding hybridOf
-returns c = rw (c .before .float7 .ensures, c .before .before .before .float6 .ensures, c .before .before .before .before .before .float5 .ensures, c .before .before .before .before .before .before .before .float4 .ensures, c .before .before .before .before .before .before .before .before .before .float3 .ensures, c .before .before .before .before .before .before .before .before .before .before .before .float2 .ensures, c .before .before .before .before .before .before .before .before .before .before .before .before .before .float .ensures)
+unfolding hybridRead
+returns c =
+    let v = c .before in
+    let p = v .before .before in
+    let t = p .before .before in
+    let vd = t .before .before in
+    let pd = vd .before .before in
+    let kd = pd .before .before in
+    let kp = kd .before .before in
+    rw (v .float7 .ensures, p .float6 .ensures, t .float5 .ensures, vd .float4 .ensures, pd .float3 .ensures, kd .float2 .ensures, kp .float .ensures)
 
 pub hybrid-spec : {M : Type 1} → statement M
 hybrid-spec =

@@ -5,20 +5,20 @@ use mathlib.Core.Path.{_≡_, refl, ap, _∙_}
 use native.Mathlib.Numerals.{add-one}
 use native.Mathlib.Omega.{arith}
 use lib.ListN.{length, take, drop}
-use Rattle.phrases.specs.Phrases.{pastOf, startOf, fromOf, nthOf}
+use Rattle.phrases.specs.Phrases.{pastOf, phraseStart, fromOf, nthOf}
 use Rattle.page.proofs.Printing.{printed-as}
 use borrow.Author.Needs.{needs}
 use Rattle.phrases.proofs.nth.Statement.{statement}
 use Rattle.phrases.proofs.nth.Tie as tie
 
 abbrev Inv-loop : tie.InvT-loop
-Inv-loop out at list n start₀ counter₀ start counter = (counter ≤ n) × (start ≡ startOf counter list) × (start ≤ length list)
+Inv-loop out at list n start₀ counter₀ start counter = (counter ≤ n) × (start ≡ phraseStart counter list) × (start ≤ length list)
 
 abbrev μ-loop : tie.MeasureT-loop
 μ-loop out at list n start₀ counter₀ start counter = n - counter
 
 loop-holds : tie.Need-loop-holds Inv-loop μ-loop
-unfolding startOf
+unfolding phraseStart
 loop-holds c = (omega arith, refl, omega arith)
 
 past-requires : tie.Need-past-requires Inv-loop μ-loop
@@ -31,7 +31,7 @@ loop-less : tie.Need-loop-less Inv-loop μ-loop
 loop-less c = search needs
 
 loop-again : tie.Need-loop-again Inv-loop μ-loop
-unfolding startOf
+unfolding phraseStart
 loop-again c =
     let l = c .before .before .loop in
     let list = c .before .before .before .before .before .args .list .now in
@@ -64,7 +64,7 @@ returns c =
     let i : l .loop .counter ≡ a .n = omega (arith, l .loop .inv .0, p .before .loop-test .left) in
     printed-as
     (ap (λ e. take (e - l .loop .start) (drop (l .loop .start) (a .list .now))) (p .past2 .ensures .0)
-    ∙ ap (fromOf (a .list .now)) (l .loop .inv .1 ∙ ap (λ k. startOf k (a .list .now)) i))
+    ∙ ap (fromOf (a .list .now)) (l .loop .inv .1 ∙ ap (λ k. phraseStart k (a .list .now)) i))
     (c .before .before .text .ensures)
 
 pub nth-spec : {M : Type 1} → statement M

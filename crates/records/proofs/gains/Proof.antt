@@ -4,7 +4,7 @@ use mathlib.Core.Path.{_≡_}
 use mathlib.Core.List.{List}
 use lib.Ieee.{Float}
 use Rattle.hybrid.specs.declared.Hybrid.{Hybrid}
-use Rattle.records.specs.Words.{floatAt, gainsIn}
+use Rattle.records.specs.Words.{floatIn, gainsIn}
 use Rattle.records.proofs.gains.Statement.{statement}
 use Rattle.records.proofs.gains.Tie as tie
 
@@ -30,7 +30,7 @@ float-requires-7 : tie.Need-float-requires-7
 float-requires-7 c κs = tt
 
 -- the seven floats decide it
-built : (f : List Float) {a b c d e g h : Float} → a ≡ floatAt f 0 → b ≡ floatAt f 1 → c ≡ floatAt f 2 → d ≡ floatAt f 3 → e ≡ floatAt f 4 → g ≡ floatAt f 5 → h ≡ floatAt f 6
+built : (f : List Float) {a b c d e g h : Float} → a ≡ floatIn f 0 → b ≡ floatIn f 1 → c ≡ floatIn f 2 → d ≡ floatIn f 3 → e ≡ floatIn f 4 → g ≡ floatIn f 5 → h ≡ floatIn f 6
     → _≡_ {A = Hybrid} (record { kp = a; kd = b; pd = c; vd = d; t = e; p = g; v = h }) (gainsIn f)
 unfolding gainsIn
 built f p q r s t u v = rw (p, q, r, s, t, u, v)

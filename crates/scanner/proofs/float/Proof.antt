@@ -2,7 +2,7 @@
 -- Assumes nothing.
 use mathlib.Core.Path.{sym, ap, _∙_}
 use Rattle.tokens.specs.Words.{bytesOf}
-use Rattle.floats.specs.Literal.{floatOf}
+use Rattle.floats.specs.Literal.{spelledFloat}
 use Rattle.scanner.specs.Readings.{floatRead, floatAt}
 use borrow.Author.Needs.{needs}
 use Rattle.scanner.proofs.float.Statement.{statement}
@@ -42,7 +42,7 @@ returns c =
     let w = c .before .before .before .before .before .before .next .result in
     rw (c .accept .ensures)
     (ap (floatRead (a .cursor) w) (sym (c .before .before .x .given .1) ∙ c .before .before .before .before .read .ensures)
-    ∙ ap (λ v. floatRead (a .cursor) v (floatOf (bytesOf (a .text .now) v))) (c .before .before .before .before .before .before .next .ensures .0))
+    ∙ ap (λ v. floatRead (a .cursor) v (spelledFloat (bytesOf (a .text .now) v))) (c .before .before .before .before .before .before .next .ensures .0))
 
 returns-2 : tie.Need-returns-2
 unfolding floatAt
@@ -51,7 +51,7 @@ returns-2 c =
     let w = c .before .before .before .before .before .next .result in
     rw (c .refuse .ensures)
     (ap (floatRead (a .cursor) w) (sym (c .before .enum-told .given .1) ∙ c .before .before .before .read .ensures)
-    ∙ ap (λ v. floatRead (a .cursor) v (floatOf (bytesOf (a .text .now) v))) (c .before .before .before .before .before .next .ensures .0))
+    ∙ ap (λ v. floatRead (a .cursor) v (spelledFloat (bytesOf (a .text .now) v))) (c .before .before .before .before .before .next .ensures .0))
 
 pub float-spec : {M : Type 1} → statement M
 float-spec =

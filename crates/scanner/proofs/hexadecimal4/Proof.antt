@@ -29,11 +29,13 @@ number-requires : tie.Need-number-requires
 number-requires c κs = below-more (c .hexadecimal4 .result) (omega arith) (c .hexadecimal4 .ensures .1)
 
 returns : tie.Need-returns
-returns c = (
-  number-at (spelledOf 16 4) Digits (c .before .before .before .before .before .args .text .now) (c .before .before .before .before .before .args .cursor) (c .before .before .before .next .result) (c .before .hexadecimal4 .result) (c .number .result) (c .number .ensures) (c .before .hexadecimal4 .ensures .0) (c .before .before .before .next .ensures .0),
-  subst (λ r. r .value < 2 ^ 16) (sym (c .number .ensures))
-      (value-below (2 ^ 16) (c .before .before .before .before .before .args .cursor) (c .before .before .before .next .result) Digits (c .before .hexadecimal4 .result) (omega arith) (c .before .hexadecimal4 .ensures .1)),
-)
+returns c =
+    let a = c .before .before .before .before .before .args in
+    let w = c .before .before .before in (
+      number-at (spelledOf 16 4) Digits (a .text .now) (a .cursor) (c .number .ensures) (c .before .hexadecimal4 .ensures .0) (w .next .ensures .0),
+      subst (λ r. r .value < 2 ^ 16) (sym (c .number .ensures))
+          (value-below (2 ^ 16) (a .cursor) (w .next .result) Digits (c .before .hexadecimal4 .result) (omega arith) (c .before .hexadecimal4 .ensures .1)),
+    )
 
 pub hexadecimal4-spec : {M : Type 1} → statement M
 hexadecimal4-spec =

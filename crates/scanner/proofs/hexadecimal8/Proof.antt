@@ -27,7 +27,9 @@ number-requires c κs = search needs
 
 returns : tie.Need-returns
 returns c =
-    number-at (spelledOf 16 8) Digits (c .before .before .before .before .before .args .text .now) (c .before .before .before .before .before .args .cursor) (c .before .before .before .next .result) (c .before .hexadecimal8 .result) (c .number .result) (c .number .ensures) (c .before .hexadecimal8 .ensures .0) (c .before .before .before .next .ensures .0)
+    let a = c .before .before .before .before .before .args in
+    let w = c .before .before .before in
+    number-at (spelledOf 16 8) Digits (a .text .now) (a .cursor) (c .number .ensures) (c .before .hexadecimal8 .ensures .0) (w .next .ensures .0)
 
 pub hexadecimal8-spec : {M : Type 1} → statement M
 hexadecimal8-spec =

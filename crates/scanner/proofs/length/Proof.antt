@@ -29,11 +29,13 @@ number-requires : tie.Need-number-requires
 number-requires c κs = below-more (c .length .result) (omega arith) (c .length .ensures .1)
 
 returns : tie.Need-returns
-returns c = (
-  number-at (lengthOf) Whole (c .before .before .before .before .before .args .text .now) (c .before .before .before .before .before .args .cursor) (c .before .before .before .next .result) (c .before .length .result) (c .number .result) (c .number .ensures) (c .before .length .ensures .0) (c .before .before .before .next .ensures .0),
-  subst (λ r. r .value < 33) (sym (c .number .ensures))
-      (value-below (33) (c .before .before .before .before .before .args .cursor) (c .before .before .before .next .result) Whole (c .before .length .result) (omega arith) (c .before .length .ensures .1)),
-)
+returns c =
+    let a = c .before .before .before .before .before .args in
+    let w = c .before .before .before in (
+      number-at lengthOf Whole (a .text .now) (a .cursor) (c .number .ensures) (c .before .length .ensures .0) (w .next .ensures .0),
+      subst (λ r. r .value < 33) (sym (c .number .ensures))
+          (value-below (33) (a .cursor) (w .next .result) Whole (c .before .length .result) (omega arith) (c .before .length .ensures .1)),
+    )
 
 pub length-spec : {M : Type 1} → statement M
 length-spec =

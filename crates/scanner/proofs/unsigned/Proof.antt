@@ -27,7 +27,9 @@ number-requires c κs = search needs
 
 returns : tie.Need-returns
 returns c =
-    number-at (unsigned32Of) Whole (c .before .before .before .before .before .args .text .now) (c .before .before .before .before .before .args .cursor) (c .before .before .before .next .result) (c .before .unsigned32 .result) (c .number .result) (c .number .ensures) (c .before .unsigned32 .ensures .0) (c .before .before .before .next .ensures .0)
+    let a = c .before .before .before .before .before .args in
+    let w = c .before .before .before in
+    number-at unsigned32Of Whole (a .text .now) (a .cursor) (c .number .ensures) (c .before .unsigned32 .ensures .0) (w .next .ensures .0)
 
 pub unsigned-spec : {M : Type 1} → statement M
 unsigned-spec =

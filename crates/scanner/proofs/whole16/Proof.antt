@@ -4,7 +4,7 @@ use Prim.Native.Nat.{_^_, _<_}
 use mathlib.Core.Path.{sym, subst}
 use native.Mathlib.Omega.{arith}
 use lib.Signed.{mag}
-use Rattle.numerals.specs.Signs.{signedOf}
+use Rattle.numerals.specs.Signs.{signedWhole}
 use Rattle.scanner.proofs.Combined.{whole-at, value-within}
 use borrow.Author.Needs.{needs}
 use Rattle.scanner.proofs.whole16.Statement.{statement}
@@ -29,11 +29,13 @@ whole-requires : tie.Need-whole-requires
 whole-requires c κs = search needs
 
 returns : tie.Need-returns
-returns c = (
-  whole-at (signedOf (2 ^ 15)) (c .before .before .before .before .before .args .text .now) (c .before .before .before .before .before .args .cursor) (c .before .before .before .next .result) (c .before .whole16 .result) (c .whole .result) (c .whole .ensures) (c .before .whole16 .ensures .0) (c .before .before .before .next .ensures .0),
-  subst (λ r. mag (r .value) < 2 ^ 15) (sym (c .whole .ensures))
-      (value-within (2 ^ 15) (c .before .before .before .before .before .args .cursor) (c .before .before .before .next .result) (c .before .whole16 .result) (omega arith) (c .before .whole16 .ensures .1)),
-)
+returns c =
+    let a = c .before .before .before .before .before .args in
+    let w = c .before .before .before in (
+      whole-at (signedWhole (2 ^ 15)) (a .text .now) (a .cursor) (c .whole .ensures) (c .before .whole16 .ensures .0) (w .next .ensures .0),
+      subst (λ r. mag (r .value) < 2 ^ 15) (sym (c .whole .ensures))
+          (value-within (2 ^ 15) (a .cursor) (w .next .result) (c .before .whole16 .result) (omega arith) (c .before .whole16 .ensures .1)),
+    )
 
 pub whole16-spec : {M : Type 1} → statement M
 whole16-spec =

@@ -1,7 +1,7 @@
 -- `tokens::next` meets its contract, by the two that it calls.
 -- Assumes nothing.
 use native.Mathlib.Omega.{arith}
-use Rattle.tokens.specs.Words.{nextOf}
+use Rattle.tokens.specs.Words.{nextWord}
 use borrow.Author.Needs.{needs}
 use Rattle.tokens.proofs.next.Statement.{statement}
 use Rattle.tokens.proofs.next.Tie as tie
@@ -13,7 +13,7 @@ skip-requires-2 : tie.Need-skip-requires-2
 skip-requires-2 c κs = search needs
 
 returns : tie.Need-returns
-unfolding nextOf
+unfolding nextWord
 returns c =
     let e = c .skip2 .ensures in
     let s = c .before .skip .ensures in

@@ -20,11 +20,11 @@ abbrev μ-loop : tie.MeasureT-loop
 loop-holds : tie.Need-loop-holds Inv-loop μ-loop
 loop-holds c = (omega arith, refl)
 
-shared-slice-read-is-kind : tie.Need-shared-slice-read-is-kind Inv-loop μ-loop
-shared-slice-read-is-kind c = search needs
+shared-slice-read-blank-is : tie.Need-shared-slice-read-blank-is Inv-loop μ-loop
+shared-slice-read-blank-is c = search needs
 
-is-kind-requires : tie.Need-is-kind-requires Inv-loop μ-loop
-is-kind-requires c κs = search needs
+blank-is-requires : tie.Need-blank-is-requires Inv-loop μ-loop
+blank-is-requires c κs = search needs
 
 add-i : tie.Need-add-i Inv-loop μ-loop
 add-i c = search needs
@@ -36,14 +36,14 @@ loop-again : tie.Need-loop-again Inv-loop μ-loop
 loop-again c =
     let l = c .before .before .before .before in
     let a = l .before .before .args in
-    let r = run-more (a .blank) (a .text .now) (l .loop .i) (omega arith) (sym (c .before .is-kind .ensures) ∙ c .if1 .taken) in
+    let r = run-more (a .blank) (a .text .now) (l .loop .i) (omega arith) (sym (c .before .blank-is .ensures) ∙ c .if1 .taken) in
     (omega arith, rw add-one (omega arith))
 
 returns : tie.Need-returns Inv-loop μ-loop
 returns c =
     let l = c .before .before .before .before in
     let a = l .before .before .args in
-    let r = run-stop (a .blank) (a .text .now) (l .loop .i) (omega arith) (sym (c .before .is-kind .ensures) ∙ c .if1 .left) in
+    let r = run-stop (a .blank) (a .text .now) (l .loop .i) (omega arith) (sym (c .before .blank-is .ensures) ∙ c .if1 .left) in
     (omega arith, (omega arith, omega arith))
 
 returns-2 : tie.Need-returns-2 Inv-loop μ-loop
@@ -60,8 +60,8 @@ skip-spec =
     Inv-loop
     μ-loop
     loop-holds
-    shared-slice-read-is-kind
-    is-kind-requires
+    shared-slice-read-blank-is
+    blank-is-requires
     add-i
     loop-less
     loop-again

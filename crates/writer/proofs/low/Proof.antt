@@ -1,7 +1,7 @@
 -- `writer::low` meets its contract: the low 28 bits of a number's 32 are the number modulo 2 ^ 28.
 -- Assumes nothing.
 use Prim.Native.Nat.{_%_, _^_}
-use mathlib.Core.Path.{_≡_, ap, _∙_}
+use mathlib.Core.Path.{_≡_}
 use native.Mathlib.Omega.{arith}
 use lib.IntN.{ℤ, pos, negsuc}
 use mir.Facts.{toZ-ofZ}

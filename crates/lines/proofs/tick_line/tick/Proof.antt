@@ -26,17 +26,14 @@ switches-requires c κs = search needs
 standstill-requires : tie.Need-standstill-requires
 standstill-requires c κs = search needs
 
-limit-set-requires : tie.Need-limit-set-requires
-limit-set-requires c κs = search needs
+set-requires : tie.Need-set-requires
+set-requires c κs = search needs
 
 hexadecimal8-requires : tie.Need-hexadecimal8-requires
 hexadecimal8-requires c κs = search needs
 
-cast-t20 : tie.Need-cast-t20
-cast-t20 c = record { fits = c .before .before .before .before .before .before .before .before .before .before .before .before .before .before .before .before .hexadecimal4 .ensures .1 }
-
-limit-set-requires-2 : tie.Need-limit-set-requires-2
-limit-set-requires-2 c κs = search needs
+cast-t21 : tie.Need-cast-t21
+cast-t21 c = record { fits = c .before .before .before .before .before .before .before .before .before .before .before .before .before .before .before .before .hexadecimal4 .ensures .1 }
 
 end-requires : tie.Need-end-requires
 end-requires c κs = search needs
@@ -44,19 +41,26 @@ end-requires c κs = search needs
 returns : tie.Need-returns
 unfolding tickRead
 returns c =
-    let p : SFits w32 (c .before .before .before .before .before .before .before .before .before .before .before .before .before .before .whole32 .result .value) = search needs in
+    let p : SFits w32 (c .before .before .before .before .before .before .before .before .before .before .before .before .before .whole32 .result .value) = search needs in
+    let alarm = c .before .before .before .before in
+    let set = alarm .before .before in
+    let still = set .before .before in
+    let switches = still .before .before .before in
+    let position = switches .before .before in
+    let at = position .before in
+    let asked = at .before .before in
+    let control = asked .before .before in
     rw (
       toZ-ofZ p,
       c .end .ensures,
-      c .before .before .limit-set2 .ensures,
-      c .before .before .before .before .before .hexadecimal8 .ensures,
-      c .before .before .before .before .before .before .before .limit-set .ensures,
-      c .before .before .before .before .before .before .before .before .before .standstill .ensures,
-      c .before .before .before .before .before .before .before .before .before .before .before .before .switches .ensures,
-      c .before .before .before .before .before .before .before .before .before .before .before .before .before .before .whole32 .ensures,
-      c .before .before .before .before .before .before .before .before .before .before .before .before .before .before .before .at .ensures,
-      c .before .before .before .before .before .before .before .before .before .before .before .before .before .before .before .before .before .command .ensures,
-      c .before .before .before .before .before .before .before .before .before .before .before .before .before .before .before .before .before .before .before .hexadecimal4 .ensures .0,
+      alarm .hexadecimal8 .ensures,
+      set .set .ensures,
+      still .standstill .ensures,
+      switches .switches .ensures,
+      position .whole32 .ensures,
+      at .at .ensures,
+      asked .command .ensures,
+      control .hexadecimal4 .ensures .0,
     )
 
 pub tick-spec : {M : Type 1} → statement M
@@ -69,9 +73,8 @@ tick-spec =
     whole32-requires
     switches-requires
     standstill-requires
-    limit-set-requires
+    set-requires
     hexadecimal8-requires
-    cast-t20
-    limit-set-requires-2
+    cast-t21
     end-requires
     returns)

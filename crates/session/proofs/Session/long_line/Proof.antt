@@ -7,8 +7,8 @@ use borrow.Author.Needs.{needs}
 use Rattle.session.proofs.Session.long_line.Statement.{statement}
 use Rattle.session.proofs.Session.long_line.Tie as tie
 
-count-requires : tie.Need-count-requires
-count-requires c κs = search needs
+count-line-requires : tie.Need-count-line-requires
+count-line-requires c κs = search needs
 
 too-long-requires : tie.Need-too-long-requires
 too-long-requires c κs = search needs
@@ -18,8 +18,8 @@ same-length c = search needs
 
 returns : tie.Need-returns
 returns c =
-    let e = c .before .before .before .before .count .ensures in
+    let e = c .before .before .before .before .count-line .ensures in
     (e, printed-as (ap (λ s. longText (s .lines)) e) (c .before .before .too-long .ensures))
 
 pub long-line-spec : {M : Type 1} → statement M
-long-line-spec = tie.close (tie.spec count-requires too-long-requires same-length returns)
+long-line-spec = tie.close (tie.spec count-line-requires too-long-requires same-length returns)

@@ -1,0 +1,56 @@
+-- `lines::opened` meets its contract: each arm is a row of the table.
+-- Assumes nothing.
+use mathlib.Core.Path.{_∙_}
+use native.Mathlib.Omega.{arith}
+use Rattle.keywords.proofs.Rows.{no-row}
+use Rattle.lines.specs.Lines.{lostAt, openings}
+use borrow.Author.Needs.{needs}
+use Rattle.lines.proofs.opened.Statement.{statement}
+use Rattle.lines.proofs.opened.Tie as tie
+
+settings-word-requires : tie.Need-settings-word-requires
+settings-word-requires c κs = search needs
+
+one-tick-requires : tie.Need-one-tick-requires
+one-tick-requires c κs = search needs
+
+one-sheet-requires : tie.Need-one-sheet-requires
+one-sheet-requires c κs = search needs
+
+fresh-requires : tie.Need-fresh-requires
+fresh-requires c κs = search needs
+
+lost-requires : tie.Need-lost-requires
+lost-requires c κs = search needs
+
+returns : tie.Need-returns
+returns c = rw (c .before .match .keys1, c .settings-word .ensures)
+
+returns-2 : tie.Need-returns-2
+returns-2 c = rw (c .before .match .keys2, c .one-tick .ensures)
+
+returns-3 : tie.Need-returns-3
+returns-3 c = rw (c .before .match .keys3, c .one-sheet .ensures)
+
+returns-4 : tie.Need-returns-4
+returns-4 c = rw (c .before .match .keys4, c .fresh .ensures)
+
+returns-5 : tie.Need-returns-5
+returns-5 c =
+    let a = c .before .before .before .args in
+    c .lost .ensures ∙ no-row (lostAt (a .unread)) (openings (a .text .now) (a .next)) (a .number) (omega arith)
+
+pub opened-spec : {M : Type 1} → statement M
+opened-spec =
+    tie.close
+    (tie.spec
+    settings-word-requires
+    one-tick-requires
+    one-sheet-requires
+    fresh-requires
+    lost-requires
+    returns
+    returns-2
+    returns-3
+    returns-4
+    returns-5)
