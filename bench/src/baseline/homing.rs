@@ -2,12 +2,13 @@
 
 use super::{HOM, INDEX, NOT, POT};
 
-/// Phases. Below IDLE: the running leg's place in its row.
-pub const IDLE: u8 = 12;
-pub const HOMED: u8 = 13;
-pub const FAILED: u8 = 14;
+/// Phases. Below IDLE: the running leg's place in the table.
+pub const IDLE: u8 = 0xf0;
+pub const HOMED: u8 = 0xf1;
+pub const FAILED: u8 = 0xf2;
 
-/// Places in a row: route a from 0, route b without its first leg from TURN, and from ON what a start with its switch on goes through.
+/// Places in a row: route a from 0, route b without its first leg from TURN, and from ON the route of a start with the switch on that the
+/// first leg awaits.
 const TURN: u8 = 4;
 const ON: u8 = 8;
 
@@ -30,22 +31,22 @@ const NFL: u8 = FAST | NOT;
 const PSL: u8 = FORWARD | DROP | NOT;
 const END: u8 = 0;
 
-/// Each row has sixteen places, so that a byte is the index: those of 23 to 26, 34, 17, 1 and one that is empty, and eight more with the
-/// directions and the limits turned. 35 has the empty one.
+/// 23 to 26, 34, 17 and 1.
 const ROWS: [[u8; 12]; 7] = [
     [PFR, NSD, END, END, NFR, PSD, NSD, END, NSD, END, END, END],
     [PFR, NSD, PSR, END, NFD, PSR, END, END, NSD, PSR, END, END],
     [PFD, NSR, END, END, NFR, PSD, NSR, END, PSD, NSR, END, END],
     [PFR, NSD, PSD, END, NFR, PSD, END, END, PSD, END, END, END],
-    [PSZ, END, END, END, END, END, END, END, END, END, END, END],
+    [PSZ, END, END, END, END, END, END, END, PSZ, END, END, END],
     [NFL, PSL, END, END, END, END, END, END, PSL, END, END, END],
     [NFL, PSL, PSZ, END, END, END, END, END, PSL, PSZ, END, END],
 ];
-const TURNED: u8 = 8 << 4;
-const EMPTY: u8 = 7 << 4;
 
-/// Rows below this one, turned or not, go on with route b where their first leg meets the limit.
-const WITHOUT_TURN: u8 = 4 << 4;
+/// Sixteen places a row, so that a byte is the index. Rows with this bit have the directions and the limits turned.
+const TURNED: u8 = 8 << 4;
+
+/// Rows with this bit have no route b.
+const NO_TURN: u8 = 4 << 4;
 
 static LEGS: [u8; 256] = {
     let mut legs = [END; 256];
@@ -63,8 +64,8 @@ static LEGS: [u8; 256] = {
     legs
 };
 
-/// The first place of a method's row.
-pub fn row(method: u8) -> u8 {
+/// The first place of a method's row; 35 has one without a leg.
+fn row(method: u8) -> u8 {
     match method {
         23..=26 => (method - 23) << 4,
         27..=30 => TURNED | (method - 27) << 4,
@@ -74,7 +75,7 @@ pub fn row(method: u8) -> u8 {
         18 => TURNED | 5 << 4,
         1 => 6 << 4,
         2 => TURNED | 6 << 4,
-        _ => EMPTY,
+        _ => 7 << 4,
     }
 }
 
@@ -82,8 +83,8 @@ pub fn row(method: u8) -> u8 {
 pub struct Leg(u8);
 
 impl Leg {
-    pub fn at(row: u8, place: u8) -> Leg {
-        Leg(LEGS[(row | place) as usize])
+    pub fn at(place: u8) -> Leg {
+        Leg(LEGS[place as usize])
     }
 
     pub fn forward(self) -> bool {
@@ -96,34 +97,35 @@ impl Leg {
 }
 
 /// In a place, or homed where the route ends there.
-fn enter(row: u8, place: u8) -> u8 {
-    if Leg::at(row, place).0 == END {
+fn enter(place: u8) -> u8 {
+    if Leg::at(place).0 == END {
         HOMED
     } else {
         place
     }
 }
 
-/// The phase after the start tick. Which switch has a say goes by the row.
-pub fn start(row: u8, switches: u8) -> u8 {
-    static SWITCHES: [u8; 16] = [HOM, HOM, HOM, HOM, 0, NOT, NOT, 0, HOM, HOM, HOM, HOM, 0, POT, POT, 0];
-    enter(row, if switches & SWITCHES[(row >> 4) as usize] != 0 { ON } else { 0 })
+/// The phase after the start tick.
+pub fn start(method: u8, switches: u8) -> u8 {
+    let row = row(method);
+    let on = switches & Leg::at(row).0 & SWITCH != 0;
+    enter(if on { row + ON } else { row })
 }
 
-/// The phase after a later tick that keeps homing and is not halted.
-pub fn step(row: u8, place: u8, moved: i32, before: u8, now: u8) -> u8 {
-    let leg = Leg::at(row, place);
+/// The phase after a later tick that keeps homing and is not halted. A limit ahead that the leg awaits is no failure.
+pub fn step(place: u8, moved: i32, before: u8, now: u8) -> u8 {
+    let leg = Leg::at(place);
     let rises = now & !before;
     let along = if leg.forward() { moved > 0 } else { moved < 0 };
     let turns = if leg.0 & DROP != 0 { before & !now } else { rises };
     if along && turns & leg.0 & SWITCH != 0 {
-        return enter(row, place + 1);
+        return enter(place + 1);
     }
     let ahead = if leg.forward() { POT } else { NOT };
     if rises & ahead & !leg.0 == 0 {
         place
-    } else if place == 0 && row & !TURNED < WITHOUT_TURN {
-        TURN
+    } else if place & (NO_TURN | 15) == 0 {
+        place + TURN
     } else {
         FAILED
     }

@@ -73,8 +73,6 @@ pub struct Axis {
     state: u8,
     mode: i8,
     alarm: u8,
-    /// Of the homing table, by the method.
-    row: u8,
     phase: u8,
     switches: u8,
     control: u16,
@@ -90,7 +88,6 @@ impl Axis {
         state: drive::NOT_READY,
         mode: 0,
         alarm: 0,
-        row: 0,
         phase: IDLE,
         switches: 0,
         control: 0,
@@ -111,7 +108,6 @@ pub fn word(axis: &mut Axis, word: u32) -> u8 {
     }
     axis.active = axis.pending.settings;
     axis.has_settings = true;
-    axis.row = homing::row(axis.active.method);
     axis.phase = IDLE;
     0
 }
@@ -167,7 +163,7 @@ pub fn tick(axis: &mut Axis, t: &Tick) -> Answer {
     let halted = t.control & 1 << 8 != 0;
     let homing_on = enabled && matched && mode == HOMING;
     if homing_on && t.control & !axis.control & 1 << 4 != 0 {
-        axis.phase = homing::start(axis.row, t.switches);
+        axis.phase = homing::start(s.method, t.switches);
         if axis.phase == HOMED {
             axis.home = t.position;
         }
@@ -176,7 +172,7 @@ pub fn tick(axis: &mut Axis, t: &Tick) -> Answer {
             axis.phase = IDLE;
         } else if !halted {
             let moved = t.position.wrapping_sub(axis.position);
-            axis.phase = homing::step(axis.row, axis.phase, moved, axis.switches, t.switches);
+            axis.phase = homing::step(axis.phase, moved, axis.switches, t.switches);
             if axis.phase == HOMED {
                 axis.home = t.position;
             }
@@ -213,7 +209,7 @@ pub fn tick(axis: &mut Axis, t: &Tick) -> Answer {
     }
     let mut speed = 0;
     if axis.phase < IDLE && !halted {
-        let leg = Leg::at(axis.row, axis.phase);
+        let leg = Leg::at(axis.phase);
         let magnitude = if leg.fast() { s.fast } else { s.slow } as i32;
         speed = if leg.forward() { magnitude } else { -magnitude };
     }
