@@ -86,8 +86,14 @@ fn lengths() {
     assert_eq!(answers(b"\n \t\n# nothing\n\r\nfresh?"), "unreadable 5 1 expected word, tick, sheet or fresh\n");
 }
 
+/// Control word, position and switches.
+type Ticks<'a> = &'a [(u16, i32, &'a str)];
+
+/// Speed and statusword.
+type Shown = (i32, u16);
+
 /// The last answer of a homing under the paper's sheet S with this method: its first tick is the start.
-fn homing(method: i64, ticks: &[(u16, i32, &str)]) -> String {
+fn homing(method: i64, ticks: Ticks) -> String {
     let mut script = format!("sheet 15 {method} 20000 1000 0 3 2 -1000 1000 1000 800 600 300 300 2 2000\n");
     for word in answers(script.as_bytes()).split_whitespace().skip(2) {
         script += &format!("word {word}\n");
@@ -102,7 +108,7 @@ fn homing(method: i64, ticks: &[(u16, i32, &str)]) -> String {
 }
 
 /// Signs turned, POT for NOT and NOT for POT.
-fn mirrored(ticks: &[(u16, i32, &str)]) -> Vec<(u16, i32, String)> {
+fn mirrored(ticks: Ticks) -> Vec<(u16, i32, String)> {
     let turned = |switches: &str| {
         let (pot, not) = (switches.starts_with('P'), &switches[1..2] == "N");
         format!("{}{}{}", if not { "P" } else { "-" }, if pot { "N" } else { "-" }, &switches[2..])
@@ -115,11 +121,11 @@ fn mirrored(ticks: &[(u16, i32, &str)]) -> Vec<(u16, i32, String)> {
 fn homing_on_the_limits() {
     const ON: u16 = 0x001F;
     const HALTED: u16 = 0x011F;
-    const HOMED: (i32, u16) = (0, 0x1737);
-    const ERROR: (i32, u16) = (0, 0x2637);
-    const FIRST: (i32, u16) = (-20000, 0x0237);
-    const LATER: (i32, u16) = (1000, 0x0237);
-    let lists: &[(&[(u16, i32, &str)], (i32, u16), (i32, u16))] = &[
+    const HOMED: Shown = (0, 0x1737);
+    const ERROR: Shown = (0, 0x2637);
+    const FIRST: Shown = (-20000, 0x0237);
+    const LATER: Shown = (1000, 0x0237);
+    let lists: &[(Ticks, Shown, Shown)] = &[
         // Every leg; the Z that method 1 awaits comes after the drop.
         (&[(ON, 0, "----"), (ON, -9, "-N--"), (ON, -5, "----")], HOMED, LATER),
         (&[(ON, 0, "----"), (ON, -9, "-N--"), (ON, -5, "----"), (ON, -3, "---Z")], HOMED, HOMED),
