@@ -8,7 +8,7 @@ use Rattle.settings.specs.declared.Settings.{Settings}
 use Rattle.legs.specs.declared.events.Switches.{Switches}
 use Rattle.legs.specs.Events.{View}
 use Rattle.homing.specs.Phase.{Phase, Idle}
-use Rattle.homing.specs.Places.{startOf, stepOf, stepAll}
+use Rattle.homing.specs.Steps.{startOf, stepOf, stepAll}
 use Rattle.roundtrip.specs.Stream.{pendingAfter}
 use Rattle.rules.specs.Axis.{Active, Nothing, Set, Axis}
 use Rattle.demands.specs.Known.{Known, Since, never, start, seen}

@@ -32,8 +32,8 @@ use Rattle.commands.specs.declared.Command.the-variants.{Homing, Position, Torq
 use Rattle.commands.specs.Commands.{withBit31}
 use Rattle.legs.specs.Events.{eventCounts, limitCounts}
 use Rattle.legs.specs.Routes.{rowOf}
-use Rattle.legs.specs.Places.{skips, startPlace, legAt}
-use Rattle.homing.specs.Places as places
+use Rattle.legs.specs.Numbers.{mainRoute, turnRoute, skipRoute, skips, startRoute}
+use Rattle.homing.specs.Steps as steps
 use Rattle.torque.specs.declared.LimitSet.the-variants.{Set2}
 use Rattle.torque.specs.Limits.{capOf}
 use Rattle.torque.specs.Torque.{torqueOf}
@@ -174,5 +174,5 @@ readings =
     ∷ []
 
 holds : (all table ≡ true) × (all further ≡ true) × (all readings ≡ true)
-unfolding table further readings words-S settings-S modulo signed wrapped floorDiv clamped methodOk inRange gearedOf inReach limitsVerdict acceptable valuesOf total checksumOf wordsFrom wordsOf settingsOf fieldOk startRead fieldRead endVerdict endRead readOf controlCommandOf nextState leastSet alarmNumberOf quotientOf sizeOf negative wholePart ofBits sub mul div ofInt eventCounts limitCounts rowOf skips startPlace legAt places.entered places.runningOf places.startOf signedOf capOf torqueOf countOf statuswordOf answerIn answeredIn wordOf newPhase tickOf completedBy withBit31
+unfolding table further readings words-S settings-S modulo signed wrapped floorDiv clamped methodOk inRange gearedOf inReach limitsVerdict acceptable valuesOf total checksumOf wordsFrom wordsOf settingsOf fieldOk startRead fieldRead endVerdict endRead readOf controlCommandOf nextState leastSet alarmNumberOf quotientOf sizeOf negative wholePart ofBits sub mul div ofInt eventCounts limitCounts rowOf mainRoute turnRoute skipRoute skips startRoute steps.runningOf steps.startOf signedOf capOf torqueOf countOf statuswordOf answerIn answeredIn wordOf newPhase tickOf completedBy withBit31
 holds = (refl, refl, refl)

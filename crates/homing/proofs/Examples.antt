@@ -12,9 +12,9 @@ use Rattle.legs.specs.declared.events.Switches.{Switches}
 use Rattle.legs.specs.Events.{View, allOff, switchesIn, eventCounts, limitCounts}
 use Rattle.legs.specs.Routes.{rowOf, planOf}
 use Rattle.homing.specs.Complete.{CompletesPlan}
-use Rattle.legs.specs.Places.{skips, startPlace, legAt}
+use Rattle.legs.specs.Numbers.{mainRoute, turnRoute, skipRoute, skips, startRoute}
 use Rattle.homing.specs.Phase.{homedIn}
-use Rattle.homing.specs.Places.{entered, limitAt, runningOf, startOf, stepAll}
+use Rattle.homing.specs.Steps.{runningOf, startOf, stepAll}
 use Rattle.homing.proofs.Simulation.{homing-iff}
 
 abbrev off : Switches
@@ -129,7 +129,7 @@ complete =
     ∷ []
 
 pub examples-complete : AllComplete complete
-unfolding rowOf skips startPlace legAt entered limitAt runningOf startOf eventCounts limitCounts wrapped modulo signed
+unfolding rowOf mainRoute turnRoute skipRoute skips startRoute runningOf startOf eventCounts limitCounts wrapped modulo signed
 examples-complete = all-complete complete refl
 
 abbrev incomplete : List Example
@@ -149,5 +149,5 @@ incomplete =
     ∷ []
 
 pub examples-miss : NoneCompletes incomplete
-unfolding rowOf skips startPlace legAt entered limitAt runningOf startOf eventCounts limitCounts wrapped modulo signed
+unfolding rowOf mainRoute turnRoute skipRoute skips startRoute runningOf startOf eventCounts limitCounts wrapped modulo signed
 examples-miss = none-completes incomplete refl

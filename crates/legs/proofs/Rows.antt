@@ -1,19 +1,19 @@
--- Which numbers are methods, which methods have a turn, and which switch picks route c: tests that antt computes.
+-- Which numbers are methods, which switch picks route c, and how the code finds the routes: tests that antt computes over the table.
 -- Assumes nothing.
 use mathlib.Core.Path.{_≡_, refl, subst}
 use mathlib.Core.Bool.{Bool, true, false, cond, _||_}
 use mathlib.Core.List.{List, [], _∷_, map, head-eq-of-cons-eq, tail-eq-of-cons-eq}
 use mathlib.Core.Option.{Option, none, some}
-use Prim.Native.Nat.{ℕ, _≤_, _<_}
+use Prim.Native.Nat.{ℕ, _+_, _-_, _/_, _^_, _≤_, _<_}
 use native.Mathlib.Omega.{arith}
-use lib.Dec.{eqb, ltb}
+use lib.Dec.{eqb, leb, ltb}
 use Rattle.counts.specs.Between.{between}
 use Rattle.ranges.specs.Range.{methodOk}
 use Rattle.counts.proofs.Between.{over}
-use borrow.Author.Tests.{eqb-true, ltb-true, ltb-false, ne-eqb}
+use borrow.Author.Tests.{eqb-true, leb-true, ltb-true, ltb-false, le-ltb, ne-eqb}
 use Rattle.legs.specs.declared.events.Switches.{Switches}
 use Rattle.legs.specs.Routes.{Row, Entry, table, lookup, rowOf}
-use Rattle.legs.specs.Places.{skips, hasTurn}
+use Rattle.legs.specs.Numbers.{mainIn, turnIn, skipIn, picksIn, mainRoute, turnRoute, skipRoute, skips}
 use Rattle.legs.proofs.Computed.{listed, agree}
 
 -- what is computed of every entry of a table is so of a row that is found
@@ -37,20 +37,15 @@ pub beyond : (m : ℕ) → 36 ≤ m → rowOf m ≡ none
 unfolding rowOf
 beyond m h = absent m table refl h
 
--- a test of rows agrees with a test of numbers everywhere, if it does below 36 and both are false from 36 on
-everywhere : (f : Option Row → Bool) (g : ℕ → Bool) → listed (λ m. f (rowOf m)) 0 36 ≡ listed g 0 36
-    → f none ≡ false → ((m : ℕ) → 36 ≤ m → g m ≡ false)
+-- what is computed of every number below 36, and of those with no row, is so of every number
+pub everywhere : {A : Type 0} (f : Option Row → A) (g : ℕ → A) → listed (λ m. f (rowOf m)) 0 36 ≡ listed g 0 36
+    → ((m : ℕ) → 36 ≤ m → f none ≡ g m)
     → (m : ℕ) → f (rowOf m) ≡ g m
-everywhere f g e p q m = go (ltb m 36) refl
+everywhere f g e far m = go (ltb m 36) refl
   where
     go : (b : Bool) → ltb m 36 ≡ b → f (rowOf m) ≡ g m
     go true t = agree (λ n. f (rowOf n)) g 36 e m (ltb-true m 36 t)
-    go false t = let h = ltb-false m 36 t in rw (beyond m h, q m h) p
-
--- "methods 23 to 30" have a turn
-pub turn-rule : (m : ℕ) → hasTurn (rowOf m) ≡ between 23 30 m
-unfolding rowOf
-turn-rule = everywhere hasTurn (between 23 30) refl refl (λ m h. over 23 30 m (omega arith) (omega arith))
+    go false t = let h = ltb-false m 36 t in rw (beyond m h) (far m h)
 
 -- the methods of the table are those that a sheet admits
 abbrev pub isRow : Option Row → Bool
@@ -60,11 +55,11 @@ isRow (some r) = true
 pub method-rule : (m : ℕ) → isRow (rowOf m) ≡ methodOk m
 unfolding rowOf methodOk
 method-rule =
-    everywhere isRow methodOk refl refl (λ m h. rw (
-      over 1 2 m (omega arith) (omega arith),
-      over 17 18 m (omega arith) (omega arith),
-      over 23 30 m (omega arith) (omega arith),
-      over 33 35 m (omega arith) (omega arith),
+    everywhere isRow methodOk refl (λ n h. rw (
+      over 1 2 n (omega arith) (omega arith),
+      over 17 18 n (omega arith) (omega arith),
+      over 23 30 n (omega arith) (omega arith),
+      over 33 35 n (omega arith) (omega arith),
     ))
 
 -- which switch picks route c, by the method's number
@@ -74,17 +69,58 @@ pickedBy m s =
 
 pub skip-rule : (m : ℕ) (s : Switches) → skips m s ≡ pickedBy m s
 unfolding rowOf skips
-skip-rule m s = go (ltb m 36) refl
-  where
-    go : (b : Bool) → ltb m 36 ≡ b → skips m s ≡ pickedBy m s
-    go true t = agree (λ n. skips n s) (λ n. pickedBy n s) 36 refl m (ltb-true m 36 t)
-    go false t =
-        let h = ltb-false m 36 t in
-        rw (
-          beyond m h,
-          over 23 30 m (omega arith) (omega arith),
-          ne-eqb m 1 (λ p. omega arith),
-          ne-eqb m 17 (λ p. omega arith),
-          ne-eqb m 2 (λ p. omega arith),
-          ne-eqb m 18 (λ p. omega arith),
-        )
+skip-rule m s =
+    everywhere (λ o. picksIn o s) (λ n. pickedBy n s) refl (λ n h. rw (
+      over 23 30 n (omega arith) (omega arith),
+      ne-eqb n 1 (λ p. omega arith),
+      ne-eqb n 17 (λ p. omega arith),
+      ne-eqb n 2 (λ p. omega arith),
+      ne-eqb n 18 (λ p. omega arith),
+    )) m
+
+-- Where the code finds the other routes: b goes on as route a of the method 53 less, whose first leg turns, and c is b without its first
+-- two legs, a without its first, or a itself.
+abbrev pub turnBy : ℕ → ℕ
+turnBy m = cond (between 23 30 m) (mainRoute (53 - m) - 32) 0
+
+pub turn-rule : (m : ℕ) → turnRoute m ≡ turnBy m
+unfolding rowOf mainRoute turnRoute
+turn-rule = everywhere turnIn turnBy refl (λ n h. rw (over 23 30 n (omega arith) (omega arith)))
+
+abbrev pub skipBy : ℕ → ℕ
+skipBy m =
+    cond (between 25 26 m || between 29 30 m) (turnRoute m / 256) (cond (ltb m 33) (mainRoute m / 256) (mainRoute m))
+
+pub skip-by-rule : (m : ℕ) → skipRoute m ≡ skipBy m
+unfolding rowOf mainRoute turnRoute skipRoute
+skip-by-rule =
+    everywhere skipIn skipBy refl (λ n h. rw (
+      over 25 26 n (omega arith) (omega arith),
+      over 29 30 n (omega arith) (omega arith),
+      le-ltb n 33 (omega arith),
+      beyond n h,
+    ))
+
+-- routes fit in three bytes, and a first leg that turns has 32 to give
+small : (f : Option Row → ℕ) → listed (λ m. ltb (f (rowOf m)) (2 ^ 24)) 0 36 ≡ listed (λ m. true) 0 36 → ltb (f none) (2 ^ 24) ≡ true
+    → (m : ℕ) → f (rowOf m) < 2 ^ 24
+small f e z m = ltb-true (f (rowOf m)) (2 ^ 24) (everywhere (λ o. ltb (f o) (2 ^ 24)) (λ n. true) e (λ n h. z) m)
+
+pub main-small : (m : ℕ) → mainRoute m < 2 ^ 24
+unfolding rowOf mainRoute
+main-small = small mainIn refl refl
+
+pub turn-small : (m : ℕ) → turnRoute m < 2 ^ 24
+unfolding rowOf turnRoute
+turn-small = small turnIn refl refl
+
+pub skip-small : (m : ℕ) → skipRoute m < 2 ^ 24
+unfolding rowOf skipRoute
+skip-small = small skipIn refl refl
+
+pub turns-main : (m : ℕ) → 23 ≤ m → m ≤ 30 → 32 ≤ mainRoute m
+unfolding rowOf mainRoute
+turns-main m h k =
+    let e = agree (λ j. leb 32 (mainRoute (23 + j))) (λ j. true) 8 refl (m - 23) (omega arith) in
+    let q : 23 + (m - 23) ≡ m = omega arith in
+    leb-true 32 (mainRoute m) (rw q at e)

@@ -8,8 +8,6 @@ use Rattle.counts.specs.declared.Movement.the-variants.{Backward, Still, Forwar
 use Rattle.legs.specs.declared.events.Switches.{Switches}
 use Rattle.legs.specs.declared.events.Seen.{Seen}
 use Rattle.legs.specs.Legs.{Switch, Home, Index, LimitAhead, LimitBehind, Edge, Rise, Drop, Leg}
-use Rattle.legs.specs.Found.{Found}
-use Rattle.legs.specs.Found as found
 
 abbrev pub allOff : Switches
 allOff = record { positive = false; negative = false; home = false; index = false }
@@ -84,12 +82,3 @@ isAhead LimitBehind = false
 -- tick nothing counts. That the event of the same tick goes first is said where both are asked (`advance`, `legTick`).
 unfoldable pub limitCounts : Leg → View → Bool
 limitCounts l v = not (v .halted) && (not (isAhead (l .switch)) && limitRises (l .forward) v)
-
--- where no leg stands nothing counts
-abbrev pub foundCounts : Found → View → Bool
-foundCounts (found.Leg l) v = eventCounts l v
-foundCounts found.Nothing v = false
-
-abbrev pub foundLimitCounts : Found → View → Bool
-foundLimitCounts (found.Leg l) v = limitCounts l v
-foundLimitCounts found.Nothing v = false

@@ -3,8 +3,8 @@ use counts::Movement;
 ghost use mathlib.Core.Path.{_≡_};
 ghost use Prim.Native.Nat.{_%_, _<_};
 ghost use Rattle.counts.specs.Bit.{bitOf};
-ghost use Rattle.legs.specs.Bytes.{aheadPlace, edgeIn, legInByte};
-ghost use Rattle.legs.specs.Events.{along, rises, edgeOf, switchesIn, viewOf, foundCounts, foundLimitCounts};
+ghost use Rattle.legs.specs.Numbers.{aheadPlace, edgeIn, legFrom};
+ghost use Rattle.legs.specs.Events.{along, rises, edgeOf, switchesIn, viewOf, eventCounts, limitCounts};
 
 // The four switches (01: POT, NOT, HOM, Z).
 pub struct Switches {
@@ -88,19 +88,19 @@ fn limit_place(forward: bool) -> u32
 
 // Whether the leg's event counts.
 pub fn event_counts(leg: u32, seen: Seen) -> bool
-    ensures { λ r. ⌜ r ≡ foundCounts (legInByte leg) (viewOf seen) ⌝ }
+    ensures { λ r. ⌜ r ≡ eventCounts (legFrom leg) (viewOf seen) ⌝ }
 {
     let movement = seen.movement;
     let moved = along_leg(crate::is_forward(leg), movement);
     let edge = edge_seen(leg, seen.before, seen.now);
-    crate::is_leg(leg) & (!seen.halted & (moved & edge))
+    !seen.halted & (moved & edge)
 }
 
 // Whether the limit in the leg's direction rises, with or without movement, and is not the leg's own switch.
 pub fn limit_counts(leg: u32, seen: Seen) -> bool
-    ensures { λ r. ⌜ r ≡ foundLimitCounts (legInByte leg) (viewOf seen) ⌝ }
+    ensures { λ r. ⌜ r ≡ limitCounts (legFrom leg) (viewOf seen) ⌝ }
 {
     let ahead = limit_place(crate::is_forward(leg));
     let rises = risen(seen.before, seen.now, ahead);
-    crate::is_leg(leg) & (!seen.halted & ((leg % 4 != ahead) & rises))
+    !seen.halted & ((leg % 4 != ahead) & rises)
 }

@@ -1,31 +1,17 @@
 // The legs of every method's routes (01: "Homing routes"; 02, (i)), and when a leg's event counts.
 //
 // A leg is a byte: the place of its switch (0 POT, 1 NOT, 2 HOM, 3 Z), 4 more if it awaits the drop, 8 more if it goes forward, 16 more if it is
-// fast. 0 is no leg.
+// fast, 32 more if a limit turns it to route b. A route is a number: a byte for each leg, the first lowest.
 pub mod events;
 
-ghost use Prim.Native.Nat.{_/_, _*_, _<_};
+ghost use Prim.Native.Nat.{_<_, _^_};
 ghost use mathlib.Core.Path.{_≡_};
-ghost use Rattle.legs.specs.Found.{isLeg};
+ghost use mathlib.Core.Bool.{_||_};
+ghost use Rattle.counts.specs.Between.{between};
 ghost use Rattle.legs.specs.Events.{switchesIn};
-ghost use Rattle.legs.specs.Places.{legAt, skipPlace, skips, startPlace};
-ghost use Rattle.legs.specs.Bytes.{legInByte, forwardIn, fastIn, fourBytes};
+ghost use Rattle.legs.specs.Numbers.{mainRoute, turnRoute, skipRoute, skips, startRoute, forwardIn, fastIn, turnsIn};
 
-// The places of a row: from 0 on route a, from TURN on route b without its first leg. Each ends in an empty place.
-pub const TURN: u32 = 4;
-
-// Where route c stands: it is b without its first two legs, a without its first, or a itself.
-fn skip_place(method: u32) -> u32
-    ensures { λ r. ⌜ r ≡ skipPlace method ⌝ }
-{
-    match method {
-        25 | 26 | 29 | 30 => 5,
-        0..=30 => 1,
-        _ => 0,
-    }
-}
-
-// Whether a start picks route c: by HOM, by NOT in 17 and 1, by POT in 18 and 2.
+// Whether a start picks route c: by HOM, in 17 and 1 by NOT, in 18 and 2 by POT, and never in 33 to 35.
 fn skips_leg(method: u32, switches: u32) -> bool
     ensures { λ r. ⌜ r ≡ skips method (switchesIn switches) ⌝ }
 {
@@ -39,79 +25,76 @@ fn skips_leg(method: u32, switches: u32) -> bool
     }
 }
 
-// The place of a start, by the switches of its tick.
-pub fn start_place(method: u32, switches: u32) -> u32
-    ensures { λ r. ⌜ r ≡ startPlace method (switchesIn switches) ⌝ }
+// Route a. R, D and Z are 01's events, A is the rise of the limit ahead, B the drop of the limit behind. 35 and a number that is no method have
+// no leg.
+fn main_route(method: u32) -> u32
+    ensures { λ r. ⌜ r ≡ mainRoute method ⌝ }
 {
+    match method {
+        1 => 0x0b_0d_11, // -F A, +S B, +S Z
+        2 => 0x03_04_18, // 1 turned, with POT for NOT
+        17 => 0x0d_11, // -F A, +S B
+        18 => 0x04_18,
+        23 => 0x06_3a, // +F R, -S D
+        24 => 0x0a_06_3a, // +F R, -S D, +S R
+        25 => 0x02_3e, // +F D, -S R
+        26 => 0x0e_06_3a, // +F R, -S D, +S D
+        27 => 0x0e_32, // 23 turned
+        28 => 0x02_0e_32,
+        29 => 0x0a_36,
+        30 => 0x06_0e_32,
+        33 => 0x03, // -S Z
+        34 => 0x0b, // +S Z
+        _ => 0,
+    }
+}
+
+// Route b without its first leg: route a of another method, that of 30 for 23, of 29 for 24, and so on; but no limit turns it again.
+pub fn turn_route(method: u32) -> u32
+    ensures value { λ r. ⌜ r ≡ turnRoute method ⌝ }
+    ensures small { λ r. ⌜ r < 2 ^ 24 ⌝ }
+{
+    match method {
+        23..=30 => main_route(53 - method) - 32,
+        _ => 0,
+    }
+}
+
+// Whether route c is b without its first two legs.
+fn ends_b(method: u32) -> bool
+    ensures { λ r. ⌜ r ≡ between 25 26 method || between 29 30 method ⌝ }
+{
+    match method {
+        25..=26 | 29..=30 => true,
+        _ => false,
+    }
+}
+
+// Route c: the end of b, a without its first leg, or a itself.
+fn skip_route(method: u32, main: u32) -> u32
+    requires { ⌜ main ≡ mainRoute method ⌝ }
+    ensures { λ r. ⌜ r ≡ skipRoute method ⌝ }
+{
+    if ends_b(method) {
+        return turn_route(method) / 256;
+    }
+    if method < 33 { main / 256 } else { main }
+}
+
+// The route of a start, by the switches of its tick.
+pub fn start_route(method: u32, switches: u32) -> u32
+    ensures value { λ r. ⌜ r ≡ startRoute method (switchesIn switches) ⌝ }
+    ensures small { λ r. ⌜ r < 2 ^ 24 ⌝ }
+{
+    let main = main_route(method);
     if skips_leg(method, switches) {
-        skip_place(method)
+        skip_route(method, main)
     } else {
-        0
+        main
     }
 }
 
-// A method's route a, a byte for each place from the highest on; 0 is an empty place. 35 and a number that is no method have no leg.
-fn main_row(method: u32) -> u32
-    ensures { λ r. ⌜ r ≡ fourBytes method 0 ⌝ }
-{
-    match method {
-        1 => 0x110d_0b00, // -F A, +S B, +S Z
-        2 => 0x1804_0300, // 1 with signs turned
-        17 => 0x110d_0000, // -F A, +S B
-        18 => 0x1804_0000,
-        23 => 0x1a06_0000, // +F R, -S D
-        24 => 0x1a06_0a00, // +F R, -S D, +S R
-        25 => 0x1e02_0000, // +F D, -S R
-        26 => 0x1a06_0e00, // +F R, -S D, +S D
-        27 => 0x120e_0000, // 23 with signs turned
-        28 => 0x120e_0200,
-        29 => 0x160a_0000,
-        30 => 0x120e_0600,
-        33 => 0x0300_0000, // -S Z
-        34 => 0x0b00_0000, // +S Z
-        _ => 0,
-    }
-}
-
-// Route b without its first leg: it is route a of another method, for 23 that of 30, for 24 that of 29, and so on.
-fn turn_row(method: u32) -> u32
-    ensures { λ r. ⌜ r ≡ fourBytes method 4 ⌝ }
-{
-    match method {
-        23..=30 => main_row(53 - method),
-        _ => 0,
-    }
-}
-
-// The four places that a place is one of.
-fn row_with(method: u32, place: u32) -> u32
-    requires { ⌜ place < 8 ⌝ }
-    ensures { λ r. ⌜ r ≡ fourBytes method (place / 4 * 4) ⌝ }
-{
-    if place < TURN {
-        main_row(method)
-    } else {
-        turn_row(method)
-    }
-}
-
-// A method's leg at a place, 0 where none stands.
-pub fn leg_at(method: u32, place: u32) -> u32
-    ensures { λ r. ⌜ legInByte r ≡ legAt method place ⌝ }
-{
-    if place < 8 {
-        (row_with(method, place) >> (24 - 8 * (place % 4))) % 256
-    } else {
-        0
-    }
-}
-
-pub fn is_leg(leg: u32) -> bool
-    ensures { λ r. ⌜ r ≡ isLeg (legInByte leg) ⌝ }
-{
-    leg != 0
-}
-
+// Of a route's first leg: its direction, its speed, and whether a limit turns it.
 pub fn is_forward(leg: u32) -> bool
     ensures { λ r. ⌜ r ≡ forwardIn leg ⌝ }
 {
@@ -122,4 +105,10 @@ pub fn is_fast(leg: u32) -> bool
     ensures { λ r. ⌜ r ≡ fastIn leg ⌝ }
 {
     leg / 16 % 2 == 1
+}
+
+pub fn turns(leg: u32) -> bool
+    ensures { λ r. ⌜ r ≡ turnsIn leg ⌝ }
+{
+    leg / 32 % 2 == 1
 }

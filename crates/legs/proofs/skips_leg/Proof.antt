@@ -1,6 +1,5 @@
 -- `legs::skips_leg` meets its contract: each arm of the `match` settles which switch picks.
 -- Assumes nothing.
-use mathlib.Core.Path.{sym, _∙_}
 use native.Mathlib.Omega.{arith}
 use borrow.Author.Needs.{needs}
 use borrow.Author.Tests.{ne-eqb}

@@ -1,7 +1,7 @@
--- `legs::events::event_counts` meets its contract: its parts are the definition's, of the leg in the byte.
+-- `legs::events::event_counts` meets its contract: its parts are the definition's.
 -- Assumes nothing.
 use borrow.Author.Needs.{needs}
-use Rattle.legs.proofs.Byte.{event-test}
+use Rattle.legs.proofs.Numbers.{event-test}
 use Rattle.legs.proofs.events.event_counts.Statement.{statement}
 use Rattle.legs.proofs.events.event_counts.Tie as tie
 
@@ -14,16 +14,13 @@ along-leg-requires c κs = search needs
 edge-seen-requires : tie.Need-edge-seen-requires
 edge-seen-requires c κs = search needs
 
-is-leg-requires : tie.Need-is-leg-requires
-is-leg-requires c κs = search needs
-
 returns : tie.Need-returns
 returns c =
-    let e = c .before .before in
+    let e = c .before in
     let a = e .before in
     let x = a .before .before .args in
-    rw (c .before .is-leg .ensures, e .edge-seen .ensures, a .along-leg .ensures, a .before .is-forward .ensures) (event-test (x .leg) (x .seen))
+    rw (e .edge-seen .ensures, a .along-leg .ensures, a .before .is-forward .ensures) (event-test (x .leg) (x .seen))
 
 pub event-counts-spec : {M : Type 1} → statement M
 event-counts-spec =
-    tie.close (tie.spec is-forward-requires along-leg-requires edge-seen-requires is-leg-requires returns)
+    tie.close (tie.spec is-forward-requires along-leg-requires edge-seen-requires returns)

@@ -1,4 +1,4 @@
--- `legs::main_row` meets its contract: each number of the code's table is the one that the method's row makes.
+-- `legs::main_route` meets its contract: each number of the code's table is the one that the method's row makes.
 -- Assumes nothing.
 use Prim.Native.Nat.{ℕ}
 use mathlib.Core.Path.{_≡_, refl}
@@ -8,73 +8,73 @@ use mathlib.Core.Option.{none, some}
 use lib.Dec.{eqb}
 use borrow.Author.Tests.{ne-eqb}
 use Rattle.legs.specs.Routes.{rowOf}
-use Rattle.legs.specs.Bytes.{fourIn, fourBytes}
-use Rattle.legs.proofs.main_row.Statement.{statement}
-use Rattle.legs.proofs.main_row.Tie as tie
+use Rattle.legs.specs.Numbers.{mainIn, mainRoute}
+use Rattle.legs.proofs.main_route.Statement.{statement}
+use Rattle.legs.proofs.main_route.Tie as tie
 
 returns : tie.Need-returns
-unfolding fourBytes rowOf
+unfolding mainRoute rowOf
 returns c = rw (c .match .keys1)
 
 returns-2 : tie.Need-returns-2
-unfolding fourBytes rowOf
+unfolding mainRoute rowOf
 returns-2 c = rw (c .match .keys2)
 
 returns-3 : tie.Need-returns-3
-unfolding fourBytes rowOf
+unfolding mainRoute rowOf
 returns-3 c = rw (c .match .keys3)
 
 returns-4 : tie.Need-returns-4
-unfolding fourBytes rowOf
+unfolding mainRoute rowOf
 returns-4 c = rw (c .match .keys4)
 
 returns-5 : tie.Need-returns-5
-unfolding fourBytes rowOf
+unfolding mainRoute rowOf
 returns-5 c = rw (c .match .keys5)
 
 returns-6 : tie.Need-returns-6
-unfolding fourBytes rowOf
+unfolding mainRoute rowOf
 returns-6 c = rw (c .match .keys6)
 
 returns-7 : tie.Need-returns-7
-unfolding fourBytes rowOf
+unfolding mainRoute rowOf
 returns-7 c = rw (c .match .keys7)
 
 returns-8 : tie.Need-returns-8
-unfolding fourBytes rowOf
+unfolding mainRoute rowOf
 returns-8 c = rw (c .match .keys8)
 
 returns-9 : tie.Need-returns-9
-unfolding fourBytes rowOf
+unfolding mainRoute rowOf
 returns-9 c = rw (c .match .keys9)
 
 returns-10 : tie.Need-returns-10
-unfolding fourBytes rowOf
+unfolding mainRoute rowOf
 returns-10 c = rw (c .match .keys10)
 
 returns-11 : tie.Need-returns-11
-unfolding fourBytes rowOf
+unfolding mainRoute rowOf
 returns-11 c = rw (c .match .keys11)
 
 returns-12 : tie.Need-returns-12
-unfolding fourBytes rowOf
+unfolding mainRoute rowOf
 returns-12 c = rw (c .match .keys12)
 
 returns-13 : tie.Need-returns-13
-unfolding fourBytes rowOf
+unfolding mainRoute rowOf
 returns-13 c = rw (c .match .keys13)
 
 returns-14 : tie.Need-returns-14
-unfolding fourBytes rowOf
+unfolding mainRoute rowOf
 returns-14 c = rw (c .match .keys14)
 
 -- 35 has no leg, any other number no row
-empty : (b : Bool) → _≡_ {A = ℕ} 0 (fourIn (cond b (some (record { picks = λ s. false; a = []; b = []; c = [] })) none) 0)
+empty : (b : Bool) → _≡_ {A = ℕ} 0 (mainIn (cond b (some (record { picks = λ s. false; a = []; b = []; c = [] })) none))
 empty true = refl
 empty false = refl
 
 returns-15 : tie.Need-returns-15
-unfolding fourBytes rowOf
+unfolding mainRoute rowOf
 returns-15 c =
     let m = c .before .args .method in
     let r = c .match .rest in
@@ -95,8 +95,8 @@ returns-15 c =
       ne-eqb m 1 (r .0 .0 .0 .0 .0 .0 .0 .0 .0 .0 .0 .0 .0 .1),
     ) (empty (eqb m 35))
 
-pub main-row-spec : {M : Type 1} → statement M
-main-row-spec =
+pub main-route-spec : {M : Type 1} → statement M
+main-route-spec =
     tie.close
     (tie.spec
     returns
