@@ -3,7 +3,7 @@
 -- homing phase stand in it. A refused tick is left out of every reading.
 -- Assumes nothing.
 use Prim.Native.Nat.{ℕ}
-use mathlib.Core.Bool.{Bool, cond}
+use mathlib.Core.Bool.{cond}
 use mathlib.Core.List.{List, [], _∷_, _++_}
 use lib.IntN.{ℤ, pos}
 use Rattle.states.specs.declared.State.{State}
@@ -58,7 +58,7 @@ atFirst =
 abbrev pub takesOver : Known → List ℕ → Active
 takesOver k ws = cond (liveOf (k .state)) Nothing (completedBy ws)
 
--- a takeover replaces the settings, and ends homed: no earlier start counts
+-- a takeover replaces the settings, and clears homed: no earlier start counts
 abbrev pub afterWord : Active → Known → List ℕ → Known
 afterWord Nothing k ws =
     record {
@@ -118,7 +118,7 @@ knownFrom k (e ∷ es) = knownFrom (next k e) es
 abbrev pub known : List Event → Known
 known es = knownFrom atFirst es
 
--- "the ticks from the latest homing start up to it spell a route of the sheet's method"
+-- demand 3: "the ticks from the latest homing start up to it spell a route of the sheet's method"
 abbrev pub CompletesSince : Active → Since → Type 0
 CompletesSince Nothing since = ⊥
 CompletesSince (Set s) never = ⊥

@@ -38,6 +38,9 @@ homeAndPositive = switchesIn 5
 abbrev homeAndNegative : Switches
 homeAndNegative = switchesIn 6
 
+abbrev bothLimits : Switches
+bothLimits = switchesIn 3
+
 -- a later tick: its position and switches, with bit 4 set and bit 8 clear
 pub data Tick : Type 0 where
   at : ℕ → Switches → Tick
@@ -121,6 +124,16 @@ complete =
     ∷ start 30 100 off (at 90 home ∷ at 92 off ∷ at 90 home ∷ at 88 off ∷ [])
     ∷ start 30 100 off (at 80 negative ∷ at 85 home ∷ at 83 off ∷ [])
     ∷ start 30 100 home (at 95 off ∷ [])
+    -- 17 and 1, and 18 and 2 turned: from off the limit, and from on it, where the first leg is skipped; HOM plays no part
+    ∷ start 17 100 off (at 90 negative ∷ at 92 off ∷ [])
+    ∷ start 17 100 negative (at 102 off ∷ [])
+    ∷ start 17 100 home (at 90 negative ∷ at 91 homeAndNegative ∷ at 92 off ∷ [])
+    ∷ start 18 100 off (at 110 positive ∷ at 108 off ∷ [])
+    ∷ start 18 100 positive (at 98 off ∷ [])
+    ∷ start 1 100 off (at 90 negative ∷ at 92 off ∷ at 93 index ∷ [])
+    ∷ start 1 100 negative (at 102 off ∷ at 103 index ∷ [])
+    ∷ start 2 100 off (at 110 positive ∷ at 108 off ∷ at 107 index ∷ [])
+    ∷ start 2 100 positive (at 98 off ∷ at 97 index ∷ [])
     -- 33 and 34, whatever HOM is; 35 by the start tick alone
     ∷ start 33 100 off (at 99 index ∷ [])
     ∷ start 33 100 home (at 99 index ∷ [])
@@ -146,6 +159,23 @@ incomplete =
     ∷ start 23 100 off (at 110 home ∷ at 108 homeAndNegative ∷ at 103 off ∷ [])
     -- the limit behind does not turn
     ∷ start 23 100 off (at 120 negative ∷ at 115 home ∷ at 117 off ∷ at 116 home ∷ at 114 off ∷ [])
+    -- on the limits: a drop while still coasting
+    ∷ start 17 100 off (at 90 negative ∷ at 88 off ∷ [])
+    ∷ start 18 100 off (at 110 positive ∷ at 112 off ∷ [])
+    -- a rise without movement is lost, and is no error: the next one counts as ever, and was not met
+    ∷ start 17 100 off (at 100 negative ∷ at 102 off ∷ [])
+    ∷ start 2 100 off (at 100 positive ∷ at 98 off ∷ at 97 index ∷ [])
+    -- the wrong switch
+    ∷ start 17 100 off (at 90 positive ∷ at 92 off ∷ [])
+    ∷ start 18 100 negative (at 98 off ∷ [])
+    ∷ start 1 100 home (at 102 off ∷ at 103 index ∷ [])
+    -- the other limit, in a later leg, is an error
+    ∷ start 17 100 negative (at 102 bothLimits ∷ at 104 positive ∷ [])
+    ∷ start 2 100 positive (at 98 bothLimits ∷ at 96 negative ∷ at 95 index ∷ [])
+    -- the third leg is not forgotten, and a rise of Z in the tick of the drop is used up
+    ∷ start 1 100 off (at 90 negative ∷ at 92 off ∷ [])
+    ∷ start 1 100 negative (at 102 index ∷ at 103 index ∷ [])
+    ∷ start 2 100 positive (at 98 index ∷ at 97 index ∷ [])
     ∷ []
 
 pub examples-miss : NoneCompletes incomplete

@@ -8,12 +8,11 @@ use mathlib.Core.List.{List, [], _∷_, head-eq-of-cons-eq, tail-eq-of-cons-eq}
 use mathlib.Core.Option.{Option, none, some}
 use Prim.Native.Nat.{ℕ, _/_}
 use lib.Dec.{eqb}
-use borrow.Author.Tests.{eqb-true}
 use Rattle.legs.specs.declared.events.Switches.{Switches}
 use Rattle.legs.specs.Legs.{Leg}
 use Rattle.legs.specs.Events.{View, eventCounts, limitCounts}
 use Rattle.legs.specs.Routes.{Row, table, rowOf, Plan, later, planBy, planIn, planOf}
-use Rattle.legs.specs.Numbers.{rest, isRoute, routeNumber, mainRoute, turnRoute, skipRoute, skips, startRoute, legFrom, turnsIn}
+use Rattle.legs.specs.Numbers.{rest, isRoute, mainRoute, turnRoute, skipRoute, skips, startRoute, legFrom, turnsIn}
 use Rattle.homing.specs.Complete.{CompletesPlan}
 use Rattle.homing.specs.Progress.{Progress, idle, failed, homed, running, begin, onLimit, advance, advanceAll, begun, started, isHomed}
 use Rattle.homing.specs.Phase.{Phase, Idle, Running, Homed, Failed, homedIn}

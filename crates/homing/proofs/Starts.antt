@@ -10,7 +10,7 @@ use Rattle.legs.specs.declared.events.Switches.{Switches}
 use Rattle.legs.specs.Routes.{Row, table, rowOf}
 use Rattle.legs.specs.Numbers.{mainRoute, skipRoute, skips, startRoute}
 use Rattle.legs.proofs.Rows.{found-same, isRow}
-use Rattle.homing.specs.Phase.{Phase, Idle}
+use Rattle.homing.specs.Phase.{Idle}
 use Rattle.homing.specs.Steps.{entered, startIn, startOf}
 
 not-35 : (m : ℕ) → rowOf m ≡ none → eqb m 35 ≡ false

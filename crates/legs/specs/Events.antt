@@ -67,7 +67,8 @@ movementFits l v = not (l .moving) || along (l .forward) (v .movement)
 abbrev pub limitRises : Bool → View → Bool
 limitRises forward v = rises (limitAhead forward (v .before)) (limitAhead forward (v .now))
 
--- the leg's event counts: "With bit 8 (halt) set nothing counts. Otherwise R, D and Z count only if [the movement] has the leg's sign."
+-- the leg's event counts: "With bit 8 (halt) set nothing counts. Otherwise R, D and Z count only if [the movement] has the leg's sign", and so
+-- do A and B
 unfoldable pub eventCounts : Leg → View → Bool
 eventCounts l v = not (v .halted) && (movementFits l v && edgeSeen l v)
 

@@ -54,8 +54,8 @@ abbrev pub -S : Event → Leg
 abbrev pub toLimit : Leg → Leg
 toLimit l = legOf (l .forward) (l .fast) L
 
--- the table's columns: "a: HOM off", "b: limit met in a's first leg", "c: HOM on"; and the switch whose level in the start tick picks c,
--- which is HOM in these
+-- the table's columns: "a: HOM off", "b: limit met in a's first leg", "c: HOM on"; and `picks`, the switch whose level in the start tick picks c:
+-- HOM in 01's rows
 pub record Row : Type 0 where
   pub picks : Switches → Bool
   pub a : List Leg
@@ -139,7 +139,7 @@ unfoldable pub rowOf : ℕ → Option Row
 rowOf m = lookup m table
 
 -- the routes that a start allows: a or c, and beside an a the legs of b from its second on. b's first leg is a's first awaiting the limit
--- (`first-legs` of homing, computed for every method with a b), so nothing but a's first leg need say it.
+-- (`first-legs` of homing, computed for every method with a b), so b's first leg is in no plan.
 pub record Plan : Type 0 where
   pub main : List Leg
   pub turn : Option (List Leg)

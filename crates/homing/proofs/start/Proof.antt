@@ -1,7 +1,5 @@
 -- `homing::start` meets its contract.
 -- Assumes nothing.
-use Prim.Native.Nat.{_<_, _^_}
-use mathlib.Core.Path.{_≡_, _∙_}
 use native.Mathlib.Omega.{arith}
 use borrow.Author.Needs.{needs}
 use Rattle.legs.specs.Events.{switchesIn}

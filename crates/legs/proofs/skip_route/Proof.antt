@@ -1,6 +1,5 @@
 -- `legs::skip_route` meets its contract: each branch settles the rule by which the code finds route c.
 -- Assumes nothing.
-use mathlib.Core.Path.{sym, _∙_}
 use borrow.Author.Needs.{needs}
 use borrow.Author.Tests.{lt-ltb, le-ltb}
 use Rattle.legs.proofs.Rows.{skip-by-rule}

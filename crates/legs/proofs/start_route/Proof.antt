@@ -1,6 +1,5 @@
 -- `legs::start_route` meets its contract.
 -- Assumes nothing.
-use mathlib.Core.Path.{_≡_, _∙_}
 use borrow.Author.Needs.{needs}
 use Rattle.legs.specs.Numbers.{startRoute}
 use Rattle.legs.proofs.Rows.{main-small, skip-small}

@@ -1,6 +1,6 @@
 -- `legs::turn_route` meets its contract: route b goes on as another method's route a.
 -- Assumes nothing.
-use Prim.Native.Nat.{_-_, _≤_, _<_, _^_}
+use Prim.Native.Nat.{_-_, _≤_}
 use mathlib.Core.Path.{_≡_, sym, _∙_}
 use native.Mathlib.Omega.{arith}
 use borrow.Author.Needs.{needs}
