@@ -4,14 +4,33 @@
 
 use crate::control_word::{ControlWord, HALT, HOMING_START};
 use crate::sheet::Sheet;
-use crate::tick::Switches;
+use crate::tick::{Switch, Switches};
 
 #[derive(Clone, Copy, Debug, PartialEq, Eq)]
 pub enum Event {
-    HomRises,
-    HomDrops,
+    Rises(Switch),
+    Drops(Switch),
+    /// "limit rise in travel direction, with or without movement"
     LimitRises,
-    ZRises,
+}
+
+impl Event {
+    /// The same event of the turned route: "NOT for POT", and the other way round.
+    fn turned(self) -> Event {
+        match self {
+            Event::Rises(switch) => Event::Rises(turned(switch)),
+            Event::Drops(switch) => Event::Drops(turned(switch)),
+            Event::LimitRises => Event::LimitRises, // the limit goes by the turned direction
+        }
+    }
+}
+
+fn turned(switch: Switch) -> Switch {
+    match switch {
+        Switch::Pot => Switch::Not,
+        Switch::Not => Switch::Pot,
+        Switch::Hom | Switch::Z => switch,
+    }
 }
 
 #[derive(Clone, Copy, Debug, PartialEq, Eq)]
@@ -24,8 +43,14 @@ pub enum Speed {
 #[derive(Clone, Copy, Debug, PartialEq, Eq)]
 pub struct Leg(pub i32, pub Speed, pub Event);
 
-use Event::{HomDrops as D, HomRises as R, LimitRises as L, ZRises as Z};
+use Event::LimitRises as L;
 use Speed::{Fast as F, Slow as S};
+
+const R: Event = Event::Rises(Switch::Hom);
+const D: Event = Event::Drops(Switch::Hom);
+const Z: Event = Event::Rises(Switch::Z);
+const NOT_R: Event = Event::Rises(Switch::Not);
+const NOT_D: Event = Event::Drops(Switch::Not);
 
 struct Row {
     a: &'static [Leg],
@@ -57,29 +82,74 @@ const TABLE: [Row; 4] = [
     },
 ];
 
+/// "Method 17 is −F until NOT rises, then +S until NOT drops"
+const METHOD_17: &[Leg] = &[Leg(-1, F, NOT_R), Leg(1, S, NOT_D)];
+
+/// "Method 1 is 17 with a third leg, +S until Z rises."
+const METHOD_1: &[Leg] = &[Leg(-1, F, NOT_R), Leg(1, S, NOT_D), Leg(1, S, Z)];
+
 #[derive(Clone, Copy, Debug, PartialEq, Eq, PartialOrd, Ord)]
 pub enum Way {
     A,
     B,
     C,
+    /// 17, 18, 1 and 2 with their limit off at the start: every leg.
+    OffLimit,
+    /// The same with their limit on: "the first leg is skipped".
+    OnLimit,
     /// 33, 34 and 35 have one route, whatever HOM says.
     Sole,
+}
+
+/// Every method that a sheet may hold.
+pub const METHODS: [u32; 15] = [1, 2, 17, 18, 23, 24, 25, 26, 27, 28, 29, 30, 33, 34, 35];
+
+/// Those that home on a limit.
+pub const ON_LIMITS: [u32; 4] = [1, 2, 17, 18];
+
+/// Every route there is.
+pub fn all_routes() -> Vec<(u32, Way)> {
+    let both = METHODS.iter().flat_map(|&method| [false, true].map(|on| (method, on)));
+    let mut all: Vec<(u32, Way)> =
+        both.flat_map(|(method, on)| routes(method, on).into_iter().map(move |route| (method, route.way))).collect();
+    all.dedup(); // a sole route is allowed either way
+    all
 }
 
 #[derive(Clone, Copy)]
 pub struct Route {
     pub way: Way,
     legs: &'static [Leg],
-    /// -1 for 27 to 30: "23 to 26 with signs turned and NOT for POT". The limit goes by the turned direction.
+    /// -1 for 27 to 30: "23 to 26 with signs turned and NOT for POT"; and for 18 and 2, which "turn the signs and use POT".
     turn: i32,
     /// For b: the event of a's first leg, which would make it route a.
     instead: Option<Event>,
 }
 
-/// "a route that the start tick's switches allow: for 23 to 30, a or b with HOM off, c with it on"
-pub fn routes(method: u32, hom: bool) -> Vec<Route> {
-    let sole = |legs| vec![Route { way: Way::Sole, legs, turn: 1, instead: None }];
+/// The switch whose level in the start tick, and in no other, says which routes are allowed.
+pub fn decider(method: u32) -> Option<Switch> {
     match method {
+        17 | 1 => Some(Switch::Not),
+        18 | 2 => Some(Switch::Pot),
+        23..=30 => Some(Switch::Hom),
+        _ => None,
+    }
+}
+
+/// "a route that the start tick's switches allow: for 23 to 30, a or b with HOM off, c with it on"; for 17 and 1 "with NOT on
+/// at the start, the first leg is skipped", for 18 and 2 with POT. Asked with the level of the method's decider.
+pub fn routes(method: u32, on: bool) -> Vec<Route> {
+    let only = |way, legs, turn| vec![Route { way, legs, turn, instead: None }];
+    let sole = |legs| only(Way::Sole, legs, 1);
+    let limit = |legs: &'static [Leg], turn| match on {
+        true => only(Way::OnLimit, &legs[1..], turn),
+        false => only(Way::OffLimit, legs, turn),
+    };
+    match method {
+        17 => limit(METHOD_17, 1),
+        1 => limit(METHOD_1, 1),
+        18 => limit(METHOD_17, -1),
+        2 => limit(METHOD_1, -1),
         33 => sole(&[Leg(-1, S, Z)]),
         34 => sole(&[Leg(1, S, Z)]),
         35 => sole(&[]),
@@ -87,7 +157,7 @@ pub fn routes(method: u32, hom: bool) -> Vec<Route> {
             let row = &TABLE[(method - 23) as usize % 4];
             let turn = if method < 27 { 1 } else { -1 };
             let route = |way, legs, instead| Route { way, legs, turn, instead };
-            if hom {
+            if on {
                 vec![route(Way::C, row.c, None)]
             } else {
                 vec![route(Way::A, row.a, None), route(Way::B, row.b, Some(row.a[0].2))]
@@ -119,22 +189,36 @@ impl Leg {
         now.position.wrapping_sub(before.position).signum() == self.0
     }
 
-    /// "limit rise in travel direction, with or without movement"
-    fn meets_limit(&self, before: &Moment, now: &Moment) -> bool {
+    /// The limit in travel direction.
+    pub fn limit(&self) -> Switch {
         match self.0 {
-            1 => now.switches.pot && !before.switches.pot,
-            _ => now.switches.not && !before.switches.not,
+            1 => Switch::Pot,
+            _ => Switch::Not,
+        }
+    }
+
+    /// The other one.
+    pub fn behind(&self) -> Switch {
+        turned(self.limit())
+    }
+
+    /// "with or without movement"
+    fn meets_limit(&self, before: &Moment, now: &Moment) -> bool {
+        now.switches.turned(&before.switches, self.limit(), true)
+    }
+
+    /// The switch that the event turns, and its level then.
+    pub fn awaits(&self) -> (Switch, bool) {
+        match self.2 {
+            Event::Rises(switch) => (switch, true),
+            Event::Drops(switch) => (switch, false),
+            L => (self.limit(), true),
         }
     }
 
     fn event_counts(&self, before: &Moment, now: &Moment) -> bool {
-        let (was, is) = (before.switches, now.switches);
-        match self.2 {
-            R => is.hom && !was.hom && self.moves(before, now),
-            D => !is.hom && was.hom && self.moves(before, now),
-            Z => is.z && !was.z && self.moves(before, now),
-            L => self.meets_limit(before, now),
-        }
+        let (switch, level) = self.awaits();
+        now.switches.turned(&before.switches, switch, level) && (self.2 == L || self.moves(before, now))
     }
 
     pub fn signed_speed(&self, sheet: &Sheet) -> i32 {
@@ -164,7 +248,10 @@ pub enum Homing {
 impl Route {
     pub fn legs(&self) -> impl Iterator<Item = Leg> {
         let turn = self.turn;
-        self.legs.iter().map(move |&Leg(direction, speed, event)| Leg(turn * direction, speed, event))
+        self.legs.iter().map(move |&Leg(direction, speed, event)| match turn {
+            1 => Leg(direction, speed, event),
+            _ => Leg(-direction, speed, event.turned()),
+        })
     }
 
     /// What a tick means in the stretch of the leg at this place. The tick before it is the remembered one.
@@ -185,7 +272,8 @@ impl Route {
         if leg.event_counts(before, now) {
             return Some(Ending::Event);
         }
-        if leg.meets_limit(before, now) {
+        // "The awaited switch's rise is no homing error."
+        if leg.meets_limit(before, now) && leg.2 != Event::Rises(leg.limit()) {
             // "a's first stretch has no counting limit rise before its end"
             let first_of_a = place == 0 && self.way == Way::A;
             return Some(if first_of_a { Ending::AnotherRoute } else { Ending::Error });
@@ -218,6 +306,7 @@ pub fn read(method: u32, since_start: &[Moment]) -> Homing {
     let Some(start) = since_start.first() else {
         return Homing::Idle;
     };
-    let reading = routes(method, start.switches.hom).iter().find_map(|route| route.cut(since_start));
+    let on = decider(method).is_some_and(|switch| start.switches.on(switch));
+    let reading = routes(method, on).iter().find_map(|route| route.cut(since_start));
     reading.expect("the ticks are those of one of the routes allowed")
 }

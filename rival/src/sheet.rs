@@ -54,7 +54,7 @@ pub fn signed(data: u32) -> i64 {
 /// Refusal 3's question for the kinds 1 to 13. Start and end words have tests of their own.
 pub fn data_is_in_range(kind: u32, data: u32) -> bool {
     match kind {
-        METHOD => matches!(data, 23..=30 | 33 | 34 | 35),
+        METHOD => matches!(data, 1 | 2 | 17 | 18 | 23..=30 | 33 | 34 | 35),
         FAST | SLOW => data >= 1,
         OFFSET | LOWER_STOP | UPPER_STOP => true, // every pattern of 28 bits is a place
         NUMERATOR | DENOMINATOR => (1..=1 << 20).contains(&data),

@@ -13,6 +13,39 @@ pub struct Switches {
     pub z: bool,
 }
 
+#[derive(Clone, Copy, Debug, PartialEq, Eq)]
+pub enum Switch {
+    Pot,
+    Not,
+    Hom,
+    Z,
+}
+
+impl Switches {
+    pub fn on(&self, switch: Switch) -> bool {
+        match switch {
+            Switch::Pot => self.pot,
+            Switch::Not => self.not,
+            Switch::Hom => self.hom,
+            Switch::Z => self.z,
+        }
+    }
+
+    pub fn turn(&mut self, switch: Switch, on: bool) {
+        *match switch {
+            Switch::Pot => &mut self.pot,
+            Switch::Not => &mut self.not,
+            Switch::Hom => &mut self.hom,
+            Switch::Z => &mut self.z,
+        } = on;
+    }
+
+    /// "A rise or drop compares with the remembered switch."
+    pub fn turned(&self, before: &Switches, switch: Switch, on: bool) -> bool {
+        self.on(switch) == on && before.on(switch) != on
+    }
+}
+
 #[derive(Clone, Copy, Debug)]
 pub struct Tick {
     pub control: ControlWord,

@@ -85,3 +85,97 @@ fn lengths() {
     assert_eq!(answers(&[b'#'; 1_000_000]), "unreadable 1 256 line too long\n");
     assert_eq!(answers(b"\n \t\n# nothing\n\r\nfresh?"), "unreadable 5 1 expected word, tick, sheet or fresh\n");
 }
+
+/// Control word, position and switches.
+type Ticks<'a> = &'a [(u16, i32, &'a str)];
+
+/// Speed and statusword.
+type Shown = (i32, u16);
+
+/// The last answer of a homing under the paper's sheet S with this method: its first tick is the start.
+fn homing(method: i64, ticks: Ticks) -> String {
+    let mut script = format!("sheet 15 {method} 20000 1000 0 3 2 -1000 1000 1000 800 600 300 300 2 2000\n");
+    for word in answers(script.as_bytes()).split_whitespace().skip(2) {
+        script += &format!("word {word}\n");
+    }
+    for control in ["0", "6", "F", "F"] {
+        script += &format!("tick {control} homing 0 at 0 ---- still set1 0\n");
+    }
+    for (control, position, switches) in ticks {
+        script += &format!("tick {control:X} homing 0 at {position} {switches} moving set1 0\n");
+    }
+    answers(script.as_bytes()).lines().last().unwrap_or_default().to_string()
+}
+
+/// Signs turned, POT for NOT and NOT for POT.
+fn mirrored(ticks: Ticks) -> Vec<(u16, i32, String)> {
+    let turned = |switches: &str| {
+        let (pot, not) = (switches.starts_with('P'), &switches[1..2] == "N");
+        format!("{}{}{}", if not { "P" } else { "-" }, if pot { "N" } else { "-" }, &switches[2..])
+    };
+    ticks.iter().map(|&(control, position, switches)| (control, -position, turned(switches))).collect()
+}
+
+/// Each list is played as it stands by 17 and 1, mirrored by 18 and 2. Speeds are those of the last tick under 17 and 1.
+#[test]
+fn homing_on_the_limits() {
+    const ON: u16 = 0x001F;
+    const HALTED: u16 = 0x011F;
+    const HOMED: Shown = (0, 0x1737);
+    const ERROR: Shown = (0, 0x2637);
+    const FIRST: Shown = (-20000, 0x0237);
+    const LATER: Shown = (1000, 0x0237);
+    let lists: &[(Ticks, Shown, Shown)] = &[
+        // Every leg; the Z that method 1 awaits comes after the drop.
+        (&[(ON, 0, "----"), (ON, -9, "-N--"), (ON, -5, "----")], HOMED, LATER),
+        (&[(ON, 0, "----"), (ON, -9, "-N--"), (ON, -5, "----"), (ON, -3, "---Z")], HOMED, HOMED),
+        // Started on the limit, be it that it rises in the start tick.
+        (&[(ON, 0, "-N--"), (ON, 4, "----")], HOMED, LATER),
+        (&[(ON, 0, "-N--"), (ON, 4, "----"), (ON, 5, "---Z")], HOMED, HOMED),
+        // A Z in the tick of the drop is used up; one without movement does not count.
+        (&[(ON, 0, "-N--"), (ON, 4, "---Z"), (ON, 5, "---Z")], HOMED, LATER),
+        (&[(ON, 0, "-N--"), (ON, 4, "----"), (ON, 4, "---Z")], HOMED, LATER),
+        // The awaited rise without movement, coasting or halted is lost, and no error; after a drop it may come again.
+        (&[(ON, 0, "----"), (ON, 0, "-N--")], FIRST, FIRST),
+        (&[(ON, 0, "----"), (ON, 3, "-N--"), (ON, -3, "-N--")], FIRST, FIRST),
+        (&[(ON, 0, "----"), (HALTED, -3, "-N--"), (ON, -6, "-N--")], FIRST, FIRST),
+        (&[(ON, 0, "----"), (ON, 0, "-N--"), (ON, -1, "----"), (ON, -2, "-N--"), (ON, 1, "----")], HOMED, LATER),
+        // The drop while coasting, without movement or halted.
+        (&[(ON, 0, "----"), (ON, -9, "-N--"), (ON, -10, "----")], LATER, LATER),
+        (&[(ON, 0, "-N--"), (ON, 0, "----")], LATER, LATER),
+        (&[(ON, 0, "-N--"), (HALTED, 1, "----"), (ON, 2, "----")], LATER, LATER),
+        // The wrong switches: POT against travel, HOM, Z.
+        (&[(ON, 0, "----"), (ON, -9, "P---"), (ON, -10, "--HZ"), (ON, -11, "----")], FIRST, FIRST),
+        (&[(ON, 0, "-NH-"), (ON, 4, "-N--"), (ON, 5, "-NHZ")], LATER, LATER),
+        // The limit ahead in a later leg is an error, with or without movement, but not beside the event.
+        (&[(ON, 0, "-N--"), (ON, 0, "PN--"), (ON, 3, "P---")], ERROR, ERROR),
+        (&[(ON, 0, "----"), (ON, -9, "-N--"), (ON, -8, "PN--"), (ON, -7, "----")], ERROR, ERROR),
+        (&[(ON, 0, "-N--"), (ON, 4, "P---"), (ON, 5, "----")], HOMED, LATER),
+        (&[(ON, 0, "-N--"), (ON, 4, "----"), (ON, 5, "P---"), (ON, 6, "---Z")], HOMED, ERROR),
+    ];
+    for &(ticks, by_17, by_1) in lists {
+        let turned = mirrored(ticks);
+        let turned: Vec<(u16, i32, &str)> =
+            turned.iter().map(|(control, at, switches)| (*control, *at, &switches[..])).collect();
+        for (method, ticks, sign, (speed, status)) in
+            [(17, ticks, 1, by_17), (1, ticks, 1, by_1), (18, &turned[..], -1, by_17), (2, &turned[..], -1, by_1)]
+        {
+            let (_, position, switches) = ticks[ticks.len() - 1];
+            let status = if switches.starts_with("--") { status } else { status | 0x0800 };
+            let expected =
+                format!("tick 0 torque 0 speed {} position {position} status {status:04X} mode 6 alarm 0", sign * speed);
+            assert_eq!(homing(method, ticks), expected, "method {method}, {ticks:?}");
+        }
+    }
+}
+
+#[test]
+fn methods() {
+    for method in 0..=40 {
+        let line = format!("sheet 15 {method} 20000 1000 0 3 2 -1000 1000 1000 800 600 300 300 2 2000");
+        let allowed = [1, 2, 17, 18, 23, 24, 25, 26, 27, 28, 29, 30, 33, 34, 35].contains(&method);
+        assert_eq!(answers(line.as_bytes()).starts_with("sheet 0 "), allowed, "{method}");
+        let word = format!("word 1\nword {:08X}", 0x1000_0000 + method);
+        assert_eq!(answers(word.as_bytes()) == "word 0\nword 0\n", allowed, "{method}");
+    }
+}

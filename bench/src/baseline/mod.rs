@@ -163,7 +163,7 @@ pub fn tick(axis: &mut Axis, t: &Tick) -> Answer {
     let halted = t.control & 1 << 8 != 0;
     let homing_on = enabled && matched && mode == HOMING;
     if homing_on && t.control & !axis.control & 1 << 4 != 0 {
-        axis.phase = homing::start(s.method, t.switches & HOM != 0);
+        axis.phase = homing::start(s.method, t.switches);
         if axis.phase == HOMED {
             axis.home = t.position;
         }
@@ -172,7 +172,7 @@ pub fn tick(axis: &mut Axis, t: &Tick) -> Answer {
             axis.phase = IDLE;
         } else if !halted {
             let moved = t.position.wrapping_sub(axis.position);
-            axis.phase = homing::step(s.method, axis.phase, moved, axis.switches, t.switches);
+            axis.phase = homing::step(axis.phase, moved, axis.switches, t.switches);
             if axis.phase == HOMED {
                 axis.home = t.position;
             }
@@ -209,7 +209,7 @@ pub fn tick(axis: &mut Axis, t: &Tick) -> Answer {
     }
     let mut speed = 0;
     if axis.phase < IDLE && !halted {
-        let leg = Leg::at(s.method, axis.phase);
+        let leg = Leg::at(axis.phase);
         let magnitude = if leg.fast() { s.fast } else { s.slow } as i32;
         speed = if leg.forward() { magnitude } else { -magnitude };
     }

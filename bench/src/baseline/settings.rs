@@ -29,7 +29,7 @@ pub struct Settings {
 }
 
 fn method_ok(method: u32) -> bool {
-    matches!(method, 23..=30 | 33..=35)
+    matches!(method, 1 | 2 | 17 | 18 | 23..=30 | 33..=35)
 }
 
 fn torque_ok(torque: u32) -> bool {

@@ -2,7 +2,8 @@
 -- Assumes nothing.
 use Prim.Native.Nat.{ℕ}
 use mathlib.Core.Path.{_≡_, refl, sym, ap, ap₂, subst, _∙_}
-use mathlib.Core.Bool.{Bool, true, false, not, cond, _&&_, _||_, and-true, and-false, or-true, and-not-self, true≢false}
+use mathlib.Core.Bool.{Bool, true, false, not, cond, _&&_, _||_, and-true, and-false, or-true, and-not-self, true≢false, false≢true}
+use mathlib.Core.Option.{none, some}
 use mathlib.Core.List.{List}
 use lib.Dec.{eqb}
 use lib.IntN.{ℤ, pos, _-ℤ_}
@@ -17,17 +18,14 @@ use Rattle.modes.specs.Modes.{modeNumber}
 use Rattle.commands.specs.declared.Demand.{Demand}
 use Rattle.commands.specs.Commands.{wholeDemand}
 use Rattle.homing.specs.Phase.{Phase, Idle, Running, Homed, Failed, phaseOf, homedIn, runningIn}
-use Rattle.homing.specs.Places.{startOf, stepOf, stoppedAt, stoppedOf}
-use Rattle.homing.specs.Moving.{runningLeg, movingLeg, Stands}
-use Rattle.homing.specs.declared.Stand.{Stand}
+use Rattle.homing.specs.Steps.{startOf, stepOf, stoppedOf}
+use Rattle.homing.specs.Moving.{movingLeg}
+use Rattle.homing.proofs.Phases.{runs}
 use Rattle.homing.proofs.Stopped.{stopped}
-use Rattle.legs.specs.Found.{Found}
-use Rattle.legs.specs.Found as found
 use Rattle.legs.specs.declared.events.Switches.{Switches}
 use Rattle.legs.specs.Events.{View, switchesIn}
-use Rattle.legs.specs.Places.{legAt}
-use Rattle.legs.specs.Digits.{legInDigit}
-use Rattle.speed.specs.Speed.{foundSpeed, speedOf}
+use Rattle.legs.specs.Numbers.{legFrom}
+use Rattle.speed.specs.Speed.{movingSpeed, speedOf}
 use Rattle.torque.specs.Torque.{torqueOf}
 use Rattle.position.specs.declared.Followed.{Followed}
 use Rattle.position.specs.declared.Followed.the-variants.{Target, Nothing}
@@ -72,45 +70,39 @@ module _ (l m : List ℕ) (p : Phase) (w : Moved l (phased (motionIn l) p) m) (p
   not-homed e =
       subst (λ (b : Bool). Moved l (homeAt (phased (motionIn l) p) (cond b position (motionIn l .home))) m) (sym e) w
 
--- what a start and what a later step stands in is the tick's
-same-stand : {method method2 : ℕ} {phase phase2 : Phase} {halted halted2 : Bool} {r : Stand} → method ≡ method2 → phase ≡ phase2 → halted ≡ halted2
-    → Stands method phase halted r → Stands method2 phase2 halted2 r
-same-stand e f g h = rw (← e, ← f, ← g) h
-
-module _ (l : List ℕ) (t : Tick) {method : ℕ} {r : Stand} (e : method ≡ settingsIn l .method) where
-  pub starts : {home halted : Bool} → let a = motionIn l in
-      bitRises (a .control) (t .control) 4 ≡ true → home ≡ t .switches .home → halted ≡ bitOf (t .control) 8
-      → Stands method (startOf method home) halted r → Stands (settingsIn l .method) (phaseBy (settingsIn l) a t true) (bitOf (t .control) 8) r
-  starts rising home halted =
+-- what a start and what a later step come to is the tick's
+module _ (l : List ℕ) (t : Tick) {method : ℕ} (e : method ≡ settingsIn l .method) where
+  pub starts : {s : Switches} {p : Phase} → let a = motionIn l in
+      bitRises (a .control) (t .control) 4 ≡ true → s ≡ t .switches → p ≡ startOf method s → p ≡ phaseBy (settingsIn l) a t true
+  starts rising switches q =
       let a = motionIn l in
       let v = viewWith (a .switches) (a .position) t true in
       let start = ap (λ (b : Bool). phaseAfter (a .phase) (settingsIn l .method) (b && true) v) (sym rising) in
-      same-stand e (ap₂ startOf e home ∙ start) halted
+      q ∙ ap₂ startOf e switches ∙ start
 
-  pub steps : {phase : Phase} {v : View} → let a = motionIn l in
+  pub steps : {phase p : Phase} {v : View} → let a = motionIn l in
       bitRises (a .control) (t .control) 4 ≡ false → phase ≡ a .phase
-      → v ≡ viewWith (a .switches) (a .position) t true → Stands method (stepOf phase method v) (v .halted) r
-      → Stands (settingsIn l .method) (phaseBy (settingsIn l) a t true) (bitOf (t .control) 8) r
-  steps {phase} {v} rising p w =
+      → v ≡ viewWith (a .switches) (a .position) t true → p ≡ stepOf phase method v → p ≡ phaseBy (settingsIn l) a t true
+  steps rising before w q =
       let a = motionIn l in
       let step = ap (λ (b : Bool). phaseAfter (a .phase) (settingsIn l .method) (b && true) (viewWith (a .switches) (a .position) t true)) (sym rising) in
-      same-stand e (rw (p, e, w) step) (ap (λ (x : View). x .halted) w)
+      q ∙ rw (before, e, w) step
 
--- A tick in which homing is on: what a start or a step stands in is the tick's, and home is the tick's position where the axis becomes
--- homed. fresh: it starts, or was not homed before.
-pub arrives : (l : List ℕ) (t : Tick) (m : List ℕ) (v : ℤ) (r : Stand) {x : ℤ} → let a = motionIn l in
+-- A tick in which homing is on: what it comes to is the tick's phase, and home is the tick's position where the axis becomes homed. fresh: it
+-- starts, or was not homed before.
+pub arrives : (l : List ℕ) (t : Tick) (m : List ℕ) (v : ℤ) (p : Phase) {x : ℤ} {halted : Bool} → let a = motionIn l in
     let s = settingsIn l in
-    Stands (s .method) (phaseBy s a t true) (bitOf (t .control) 8) r
+    p ≡ phaseBy s a t true → halted ≡ bitOf (t .control) 8
     → bitRises (a .control) (t .control) 4 && true || not (homedIn (a .phase)) ≡ true
-    → x ≡ t .position → Moved l (arrived a (phaseOf (r .phase)) x) m → v ≡ foundSpeed s (legInDigit (r .leg)) → Homes l t true m v
-arrives l t m v r {x} stands fresh position moved speed =
+    → x ≡ t .position → Moved l (arrived a p x) m → v ≡ speedOf s p halted → Homes l t true m v
+arrives l t m v p {x} same halted fresh position moved speed =
     let s = settingsIn l in
     let a = motionIn l in
-    let p = phaseBy s a t true in
-    let home : homeBy a t true p ≡ cond (homedIn p) (t .position) (a .home) =
-    ap (λ (b : Bool). cond (homedIn p && b) (t .position) (a .home)) fresh ∙ ap (λ (b : Bool). cond b (t .position) (a .home)) (and-true (homedIn p)) in
-    let after : arrived a (phaseOf (r .phase)) x ≡ homingBy s a t true = ap₂ (arrived a) (stands .phase) position ∙ ap (homeAt (phased a p)) (sym home) in
-    record { moved = subst (λ (x : Motion). Moved l x m) after moved; speed = speed ∙ ap (foundSpeed s) (stands .leg) }
+    let q = phaseBy s a t true in
+    let home : homeBy a t true q ≡ cond (homedIn q) (t .position) (a .home) =
+    ap (λ (b : Bool). cond (homedIn q && b) (t .position) (a .home)) fresh ∙ ap (λ (b : Bool). cond b (t .position) (a .home)) (and-true (homedIn q)) in
+    let after : arrived a p x ≡ homingBy s a t true = ap₂ (arrived a) same position ∙ ap (homeAt (phased a q)) (sym home) in
+    record { moved = subst (λ (x : Motion). Moved l x m) after moved; speed = speed ∙ ap₂ (speedOf s) same halted }
 
 -- a start is fresh, and so is a step from a running leg
 pub fresh-start : {rising : Bool} (homed : Bool) → rising ≡ true → rising && true || not homed ≡ true
@@ -118,23 +110,28 @@ fresh-start homed e = rw e
 
 pub fresh-step : (rising : Bool) (p : Phase) → runningIn p ≡ true → rising && true || not (homedIn p) ≡ true
 fresh-step rising Idle e = absurd (true≢false (sym e))
-fresh-step rising (Running place) e = or-true (rising && true)
+fresh-step rising (Running route) e = or-true (rising && true)
 fresh-step rising Homed e = absurd (true≢false (sym e))
 fresh-step rising Failed e = absurd (true≢false (sym e))
 
 -- where no leg runs and none starts, homing stays as it is
 stays : (p : Phase) (method : ℕ) (v : View) → runningIn p ≡ false → stepOf p method v ≡ p
 stays Idle method v e = refl
-stays (Running place) method v e = absurd (true≢false e)
+stays (Running route) method v e = absurd (true≢false e)
 stays Homed method v e = refl
 stays Failed method v e = refl
 
-unmoving : (p : Phase) (method : ℕ) (halted : Bool) → runningIn p ≡ false → movingLeg method p halted ≡ found.Nothing
-unmoving p method true e = refl
-unmoving Idle method false e = refl
-unmoving (Running place) method false e = absurd (true≢false e)
-unmoving Homed method false e = refl
-unmoving Failed method false e = refl
+pub unmoving : (p : Phase) (halted : Bool) → runningIn p && not halted ≡ false → movingLeg p halted ≡ none
+unmoving p true e = refl
+unmoving Idle false e = refl
+unmoving (Running route) false e = absurd (true≢false e)
+unmoving Homed false e = refl
+unmoving Failed false e = refl
+
+-- a leg that runs in a tick that is not halted is the one that moves
+pub moving : (n : ℕ) (halted : Bool) → runningIn (phaseOf n) && not halted ≡ true → movingLeg (phaseOf n) halted ≡ some (legFrom n)
+moving n true e = absurd (false≢true (sym (and-false (runningIn (phaseOf n))) ∙ e))
+moving n false e = rw (runs n (sym (and-true (runningIn (phaseOf n))) ∙ e))
 
 pub rests : (l : List ℕ) (t : Tick) → let a = motionIn l in
     bitRises (a .control) (t .control) 4 ≡ false → runningIn (a .phase) ≡ false → Homes l t true l (pos 0)
@@ -154,44 +151,36 @@ rests l t e r =
       speed =
           sym
           (ap (λ (p : Phase). speedOf s p (bitOf (t .control) 8)) phase
-          ∙ ap (foundSpeed s) (unmoving (a .phase) (s .method) (bitOf (t .control) 8) r));
+          ∙ ap (movingSpeed s) (unmoving (a .phase) (bitOf (t .control) 8) (ap (λ (b : Bool). b && not (bitOf (t .control) 8)) r)));
     }
 
 -- A tick in which homing is off: it stops. What stops is homed exactly where it was, so home stays, and nothing moves.
-stopped-homed : (p : Phase) (method : ℕ) → homedIn (stoppedOf p method) && not (homedIn p) ≡ false
-stopped-homed Idle method = refl
-stopped-homed (Running place) method = go (legAt method place)
-  where
-    go : (f : Found) → homedIn (stoppedAt f) && true ≡ false
-    go found.Nothing = refl
-    go (found.Leg l) = refl
-stopped-homed Homed method = refl
-stopped-homed Failed method = refl
+stopped-homed : (p : Phase) → homedIn (stoppedOf p) && not (homedIn p) ≡ false
+stopped-homed Idle = refl
+stopped-homed (Running route) = refl
+stopped-homed Homed = refl
+stopped-homed Failed = refl
 
-stopped-moves : (p : Phase) (method : ℕ) (halted : Bool) → movingLeg method (stoppedOf p method) halted ≡ found.Nothing
-stopped-moves p method true = refl
-stopped-moves Idle method false = refl
-stopped-moves (Running place) method false = go (legAt method place)
-  where
-    go : (f : Found) → runningLeg method (stoppedAt f) ≡ found.Nothing
-    go found.Nothing = refl
-    go (found.Leg l) = refl
-stopped-moves Homed method false = refl
-stopped-moves Failed method false = refl
+stopped-moves : (p : Phase) (halted : Bool) → movingLeg (stoppedOf p) halted ≡ none
+stopped-moves p true = refl
+stopped-moves Idle false = refl
+stopped-moves (Running route) false = refl
+stopped-moves Homed false = refl
+stopped-moves Failed false = refl
 
 pub stops : (l : List ℕ) (t : Tick) (m : List ℕ) → let a = motionIn l in
-    Moved l (phased a (stoppedOf (a .phase) (settingsIn l .method))) m → Homes l t false m (pos 0)
+    Moved l (phased a (stoppedOf (a .phase))) m → Homes l t false m (pos 0)
 stops l t m moved =
     let s = settingsIn l in
     let a = motionIn l in
     let rising = bitRises (a .control) (t .control) 4 in
     let v = viewWith (a .switches) (a .position) t false in
-    let q = stoppedOf (a .phase) (s .method) in
+    let q = stoppedOf (a .phase) in
     let phase : phaseBy s a t false ≡ q =
     ap (λ (b : Bool). phaseAfter (a .phase) (s .method) b v) (and-false rising) ∙ stopped (a .phase) (s .method) v (and-false (bitOf (t .control) 4)) in
     let home : homeBy a t false q ≡ a .home =
     ap (λ (b : Bool). homeAfter (a .home) b (homedIn (a .phase)) (homedIn q) (t .position)) (and-false rising)
-    ∙ ap (λ (b : Bool). cond b (t .position) (a .home)) (stopped-homed (a .phase) (s .method)) in
+    ∙ ap (λ (b : Bool). cond b (t .position) (a .home)) (stopped-homed (a .phase)) in
     let after : phased a q ≡ homingBy s a t false =
     sym (ap (λ (p : Phase). homeAt (phased a p) (homeBy a t false p)) phase ∙ ap (homeAt (phased a q)) home) in
     record {
@@ -199,7 +188,7 @@ stops l t m moved =
       speed =
           sym
           (ap (λ (p : Phase). speedOf s p (bitOf (t .control) 8)) phase
-          ∙ ap (foundSpeed s) (stopped-moves (a .phase) (s .method) (bitOf (t .control) 8)));
+          ∙ ap (movingSpeed s) (stopped-moves (a .phase) (bitOf (t .control) 8)));
     }
 
 -- where no target is followed the position is the actual one

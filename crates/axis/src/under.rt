@@ -3,7 +3,6 @@
 use answers::Answer;
 use cells::Lent;
 use commands::Demand;
-use homing::Stand;
 use legs::events;
 use legs::events::Seen;
 use modes::Mode;
@@ -14,12 +13,12 @@ use torque::LimitSet;
 ghost use mathlib.Core.Path.{_≡_};
 ghost use mathlib.Core.Bool.{true};
 ghost use Rattle.commands.specs.Commands.{modeOf, wholeDemand};
-ghost use Rattle.legs.specs.Digits.{legInDigit};
+ghost use Rattle.legs.specs.Numbers.{legFrom};
 ghost use Rattle.legs.specs.Events.{viewOf};
 ghost use Rattle.homing.specs.Phase.{phaseOf};
-ghost use Rattle.homing.specs.Places.{stoppedOf};
+ghost use Rattle.homing.specs.Steps.{stoppedOf};
 ghost use Rattle.torque.specs.Torque.{torqueOf};
-ghost use Rattle.speed.specs.Speed.{foundSpeed};
+ghost use Rattle.speed.specs.Speed.{legSpeed, speedOf};
 ghost use Rattle.position.specs.Position.{positionOf, clampedOf};
 ghost use Rattle.states.specs.Alarm.{latchedOf};
 ghost use Rattle.ticks.specs.Rules.{alarmIn, viewWith};
@@ -93,7 +92,7 @@ fn seen(axis: &Lent, t: Tick, switches: u32) -> Seen
 }
 
 fn speed_in(axis: &Lent, leg: u32) -> i32
-    ensures { λ r. ⌜ r ≡ foundSpeed (settingsIn (now (axis .entry))) (legInDigit leg) ⌝ }
+    ensures { λ r. ⌜ r ≡ legSpeed (settingsIn (now (axis .entry))) (legFrom leg) ⌝ }
 {
     speed::speed(cells::settings_in(axis), leg)
 }
@@ -108,13 +107,17 @@ fn put_stand(axis: &mut Lent, phase: u32, position: i32)
     }
 }
 
-// Returns the speed.
-fn settle(axis: &mut Lent, after: Stand, position: i32) -> i32
-    ensures moved { λ _. ⌜ Moved (now (axis .entry)) (arrived (motionIn (now (axis .entry))) (phaseOf (after .phase)) position) (now (axis .exit)) ⌝ }
-    ensures speed { λ r. ⌜ r ≡ foundSpeed (settingsIn (now (axis .entry))) (legInDigit (after .leg)) ⌝ }
+// Returns the speed: that of the running leg, and 0 in a halted tick.
+fn settle(axis: &mut Lent, phase: u32, halted: bool, position: i32) -> i32
+    ensures moved { λ _. ⌜ Moved (now (axis .entry)) (arrived (motionIn (now (axis .entry))) (phaseOf phase) position) (now (axis .exit)) ⌝ }
+    ensures speed { λ r. ⌜ r ≡ speedOf (settingsIn (now (axis .entry))) (phaseOf phase) halted ⌝ }
 {
-    put_stand(axis, after.phase, position);
-    speed_in(axis, after.leg)
+    put_stand(axis, phase, position);
+    if homing::is_running(phase) & !halted {
+        speed_in(axis, phase)
+    } else {
+        0
+    }
 }
 
 // Homing in a tick in which it is matched and the drive in Operation enabled.
@@ -123,15 +126,15 @@ fn in_homing(axis: &mut Lent, t: Tick, switches: u32) -> i32
     ensures { λ r. ⌜ Homes (now (axis .entry)) t true (now (axis .exit)) r ⌝ }
 {
     let method = cells::method(axis);
+    let halted = counts::bit(t.control, 8);
     if control::rising(cells::control(axis), t.control, 4) {
-        let home = events::home_on(switches);
-        let started = homing::start(method, home, counts::bit(t.control, 8));
-        return settle(axis, started, t.position);
+        let started = homing::start(method, switches);
+        return settle(axis, started, halted, t.position);
     }
     let phase = cells::phase(axis);
     if homing::is_running(phase) {
         let stepped = homing::step(phase, method, seen(axis, t, switches));
-        settle(axis, stepped, t.position)
+        settle(axis, stepped, halted, t.position)
     } else {
         0
     }
@@ -139,9 +142,9 @@ fn in_homing(axis: &mut Lent, t: Tick, switches: u32) -> i32
 
 // Homing in any other tick stops; home stays.
 fn out_of_homing(axis: &mut Lent)
-    ensures { λ _. ⌜ Moved (now (axis .entry)) (phased (motionIn (now (axis .entry))) (stoppedOf (motionIn (now (axis .entry)) .phase) (settingsIn (now (axis .entry)) .method))) (now (axis .exit)) ⌝ }
+    ensures { λ _. ⌜ Moved (now (axis .entry)) (phased (motionIn (now (axis .entry))) (stoppedOf (motionIn (now (axis .entry)) .phase))) (now (axis .exit)) ⌝ }
 {
-    let stopped = homing::stop(cells::phase(axis), cells::method(axis));
+    let stopped = homing::stop(cells::phase(axis));
     cells::put_phase(axis, stopped);
 }
 

@@ -19,6 +19,7 @@ use Rattle.ticks.specs.Motion.{driven, phased, homeAt, fed}
 use Rattle.words.specs.Encode.{total}
 use Rattle.words.specs.Decode.{settingsOf}
 use Rattle.reader.specs.Read.{started, kept}
+use Rattle.homing.specs.Phase.{phaseOf}
 use Rattle.patterns.specs.Patterns.{wordAt, stateAt, modeAt}
 use Rattle.patterns.proofs.Back.{signed-back, state-back, mode-back}
 use Rattle.cells.specs.Lists.{cellsFrom}
@@ -27,7 +28,7 @@ use Rattle.cells.specs.Writes.{Pends, emptied, Emptied, copied, TakenOve
 use Rattle.cells.proofs.Lists.{spelled}
 
 pub cleared : ZerosAreFresh
-unfolding axisIn activeIn stateAt modeAt modulo signed wrapped
+unfolding axisIn activeIn phaseOf stateAt modeAt modulo signed wrapped
 cleared = refl
 
 pub unchanged : {l : List ℕ} → Pends l (pendingIn l) l
@@ -63,7 +64,7 @@ module _ (l : List ℕ) (h : length l ≡ 37) where
   stored-value (suc (suc (suc (suc (suc (suc (suc (suc (suc (suc (suc (suc (suc (suc k)))))))))))))) x b e = absurd (omega arith)
 
   pub taken-over : TakenOver l (set (set (copied 13 l) 0 1) 32 0)
-  unfolding axisIn activeIn settingsOf
+  unfolding axisIn activeIn phaseOf settingsOf
   taken-over = rw (spelled 37 l h) (record { axis = refl; pending = refl; motion = record { before = refl; after = refl } })
 
 -- a store leaves the words past it

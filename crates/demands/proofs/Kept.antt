@@ -98,7 +98,7 @@ module _ (a : Axis) (k : Known) (m : Matches a k) where
         position = refl;
         phase =
             rw (starts, view, phase)
-            (phase-step s (startsIn (k .control) t shown after) (t .switches .home) (viewIn (k .switches) (k .position) t shown after) (k .since)
+            (phase-step s (startsIn (k .control) t shown after) (t .switches) (viewIn (k .switches) (k .position) t shown after) (k .since)
             ∙ ap (λ (x : Active). phaseFor x (sinceAfter k t shown after)) (sym e));
       }
 

@@ -5,9 +5,10 @@ use mathlib.Core.Bool.{Bool, true, false, cond}
 use mathlib.Core.List.{List, [], _∷_, _++_}
 use Prim.Native.Nat.{ℕ}
 use Rattle.settings.specs.declared.Settings.{Settings}
+use Rattle.legs.specs.declared.events.Switches.{Switches}
 use Rattle.legs.specs.Events.{View}
 use Rattle.homing.specs.Phase.{Phase, Idle}
-use Rattle.homing.specs.Places.{startOf, stepOf, stepAll}
+use Rattle.homing.specs.Steps.{startOf, stepOf, stepAll}
 use Rattle.roundtrip.specs.Stream.{pendingAfter}
 use Rattle.rules.specs.Axis.{Active, Nothing, Set, Axis}
 use Rattle.demands.specs.Known.{Known, Since, never, start, seen}
@@ -16,7 +17,7 @@ use Rattle.demands.specs.Known.{Known, Since, never, start, seen}
 abbrev pub phaseFor : Active → Since → Phase
 phaseFor Nothing since = Idle
 phaseFor (Set s) never = Idle
-phaseFor (Set s) (start home views) = stepAll (startOf (s .method) home) (s .method) views
+phaseFor (Set s) (start switches views) = stepAll (startOf (s .method) switches) (s .method) views
 
 pub record Matches (a : Axis) (k : Known) : Type 0 where
   pub active : a .active ≡ k .settings
@@ -33,8 +34,8 @@ step-append p m [] v = refl
 step-append p m (u ∷ vs) v = step-append (stepOf p m u) m vs v
 
 -- a start, or one tick more
-pub phase-step : (s : Settings) (starts home : Bool) (v : View) (since : Since)
-    → cond starts (startOf (s .method) home) (stepOf (phaseFor (Set s) since) (s .method) v) ≡ phaseFor (Set s) (cond starts (start home []) (seen since v))
-phase-step s true home v since = refl
-phase-step s false home v never = refl
-phase-step s false home v (start h vs) = step-append (startOf (s .method) h) (s .method) vs v
+pub phase-step : (s : Settings) (starts : Bool) (switches : Switches) (v : View) (since : Since)
+    → cond starts (startOf (s .method) switches) (stepOf (phaseFor (Set s) since) (s .method) v) ≡ phaseFor (Set s) (cond starts (start switches []) (seen since v))
+phase-step s true switches v since = refl
+phase-step s false switches v never = refl
+phase-step s false switches v (start w vs) = step-append (startOf (s .method) w) (s .method) vs v

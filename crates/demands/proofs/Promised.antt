@@ -35,7 +35,7 @@ use Rattle.demands.proofs.Kept.{keep-under, matches}
 phase-homed : (x : Active) (since : Since) → (homedIn (phaseFor x since) ≡ true) ↔ CompletesSince x since
 phase-homed Nothing since = (λ h. false≢true h, absurd)
 phase-homed (Set s) never = (λ h. false≢true h, absurd)
-phase-homed (Set s) (start home views) = homing-iff (s .method) home views
+phase-homed (Set s) (start switches views) = homing-iff (s .method) switches views
 
 -- a bit that shows a flag, and what the flag means
 through : {A : Type 0} {b c : Bool} → b ≡ c → (c ≡ true) ↔ A → (b ≡ true) ↔ A

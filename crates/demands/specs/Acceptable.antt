@@ -1,5 +1,5 @@
--- Settings that are in force are acceptable, after every list of settings words and ticks; so the guards of the definitions change nothing in
--- any history, and torque, speed and position are those of 01's formulas with no guard in them.
+-- Settings that are in force are acceptable, after every list of settings words and ticks; so the guards of gear, speeds and torque caps
+-- change nothing in any history, and torque, speed and position are those of 01's formulas with no guard in them.
 -- Assumes nothing.
 use Prim.Native.Nat.{ℕ}
 use mathlib.Core.Path.{_≡_}

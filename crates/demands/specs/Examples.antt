@@ -30,10 +30,10 @@ use Rattle.states.specs.Alarm.{leastSet, alarmNumberOf}
 use Rattle.hybrid.specs.Hybrid.{quotientOf, sizeOf, negative, wholePart}
 use Rattle.commands.specs.declared.Command.the-variants.{Homing, Position, Torque, Rest}
 use Rattle.commands.specs.Commands.{withBit31}
-use Rattle.legs.specs.Events.{eventCounts, limitCounts}
+use Rattle.legs.specs.Events.{switchesIn, eventCounts, limitCounts}
 use Rattle.legs.specs.Routes.{rowOf}
-use Rattle.legs.specs.Places.{legAt}
-use Rattle.homing.specs.Places as places
+use Rattle.legs.specs.Numbers.{mainRoute, turnRoute, skipRoute, skips, startRoute}
+use Rattle.homing.specs.Steps as steps
 use Rattle.torque.specs.declared.LimitSet.the-variants.{Set2}
 use Rattle.torque.specs.Limits.{capOf}
 use Rattle.torque.specs.Torque.{torqueOf}
@@ -51,7 +51,7 @@ use Rattle.demands.specs.Known.{Since, never, known}
 use Rattle.demands.specs.Known.{start as begun}
 use Rattle.demands.specs.Replies.{Reply, replies}
 use Rattle.demands.specs.Sheet.{words-S, settings-S}
-use Rattle.demands.specs.Lists.{off, HOM, Z, minus, inputs, still-tick, moving-tick, alarmed, ask, ask-in, hybrid, start, at, halted, released, S, with, enabling, enabled, enabled-with, after, number, torque, position, speed, status, alarm}
+use Rattle.demands.specs.Lists.{off, HOM, Z, POT, NOT, minus, inputs, still-tick, moving-tick, alarmed, ask, ask-in, hybrid, start, at, halted, released, S, with, enabling, enabled, enabled-with, after, number, torque, position, speed, status, alarm}
 
 abbrev sameCounts : List ℤ → List ℤ → Bool
 sameCounts [] [] = true
@@ -145,6 +145,17 @@ further =
     -- homed, also with bit 4 clear afterwards; 35 by the start tick alone, also halted
     ∷ homes 23 (start 100 off ∷ at 110 HOM ∷ at 108 off ∷ released 120 off ∷ [])
     ∷ homes 35 (inputs 0x011F (Homing (pos 0)) 100 off true ∷ [])
+    -- 02, (i): kind 1 admits 17, and not 16; homed on a limit, from off it and from on it, and not by a drop while coasting
+    ∷ sameWords (map number (replies (with 1 17))) (replicate 15 0)
+    ∷ sameWords (map number (replies (take 2 (with 1 16)))) (0 ∷ 3 ∷ [])
+    ∷ homes 17 (start 100 off ∷ at 90 NOT ∷ at 92 off ∷ [])
+    ∷ homes 18 (start 100 POT ∷ at 98 off ∷ [])
+    ∷ homes 1 (start 100 NOT ∷ at 102 off ∷ at 103 Z ∷ [])
+    ∷ homes 2 (start 100 off ∷ at 110 POT ∷ at 108 off ∷ at 107 Z ∷ [])
+    ∷ not (homes 17 (start 100 off ∷ at 90 NOT ∷ at 88 off ∷ []))
+    -- the awaited limit without movement leaves the leg running, with bit 11; the other one in the next leg is an error, bit 13
+    ∷ sameWords (map status (after (enabled-with 1 17) (start 100 off ∷ at 100 NOT ∷ []))) (0x0237 ∷ 0x0A37 ∷ [])
+    ∷ sameWords (map status (after (enabled-with 1 17) (start 100 NOT ∷ at 102 (switchesIn 3) ∷ []))) (0x0A37 ∷ 0x2E37 ∷ [])
     -- not homed: the edge lost in halt
     ∷ not (homes 33 (start 100 off ∷ halted 99 Z ∷ at 98 Z ∷ []))
     -- bit 4 clear in the tick of the event, and for one tick before it
@@ -174,5 +185,5 @@ readings =
     ∷ []
 
 holds : (all table ≡ true) × (all further ≡ true) × (all readings ≡ true)
-unfolding table further readings words-S settings-S modulo signed wrapped floorDiv clamped methodOk inRange gearedOf inReach limitsVerdict acceptable valuesOf total checksumOf wordsFrom wordsOf settingsOf fieldOk startRead fieldRead endVerdict endRead readOf controlCommandOf nextState leastSet alarmNumberOf quotientOf sizeOf negative wholePart ofBits sub mul div ofInt eventCounts limitCounts rowOf legAt places.entered places.runningOf places.startOf signedOf capOf torqueOf countOf statuswordOf answerIn answeredIn wordOf newPhase tickOf completedBy withBit31
+unfolding table further readings words-S settings-S modulo signed wrapped floorDiv clamped methodOk inRange gearedOf inReach limitsVerdict acceptable valuesOf total checksumOf wordsFrom wordsOf settingsOf fieldOk startRead fieldRead endVerdict endRead readOf controlCommandOf nextState leastSet alarmNumberOf quotientOf sizeOf negative wholePart ofBits sub mul div ofInt eventCounts limitCounts rowOf mainRoute turnRoute skipRoute skips startRoute steps.runningOf steps.startOf signedOf capOf torqueOf countOf statuswordOf answerIn answeredIn wordOf newPhase tickOf completedBy withBit31
 holds = (refl, refl, refl)

@@ -3,7 +3,7 @@
 -- homing phase stand in it. A refused tick is left out of every reading.
 -- Assumes nothing.
 use Prim.Native.Nat.{ℕ}
-use mathlib.Core.Bool.{Bool, cond}
+use mathlib.Core.Bool.{cond}
 use mathlib.Core.List.{List, [], _∷_, _++_}
 use lib.IntN.{ℤ, pos}
 use Rattle.states.specs.declared.State.{State}
@@ -21,10 +21,10 @@ use Rattle.ticks.specs.Rules.{modeAfter, stateAfter, startsIn, viewIn}
 use Rattle.demands.specs.Takeover.{completedBy}
 use Rattle.demands.specs.Events.{Event, word, tick}
 
--- the latest homing start since the last takeover: HOM in its tick, and what homing sees of each tick after it
+-- the latest homing start since the last takeover: the switches in its tick, and what homing sees of each tick after it
 pub data Since : Type 0 where
   never : Since
-  start : Bool → List View → Since
+  start : Switches → List View → Since
 
 pub record Known : Type 0 where
   -- the words so far, ticks aside
@@ -58,7 +58,7 @@ atFirst =
 abbrev pub takesOver : Known → List ℕ → Active
 takesOver k ws = cond (liveOf (k .state)) Nothing (completedBy ws)
 
--- a takeover replaces the settings, and ends homed: no earlier start counts
+-- a takeover replaces the settings, and clears homed: no earlier start counts
 abbrev pub afterWord : Active → Known → List ℕ → Known
 afterWord Nothing k ws =
     record {
@@ -86,11 +86,11 @@ afterWord (Set s) k ws =
 -- one tick more after a start
 abbrev pub seen : Since → View → Since
 seen never v = never
-seen (start home views) v = start home (views ++ v ∷ [])
+seen (start s views) v = start s (views ++ v ∷ [])
 
 abbrev pub sinceAfter : Known → Tick → Mode → State → Since
 sinceAfter k t mode state =
-    cond (startsIn (k .control) t mode state) (start (t .switches .home) []) (seen (k .since) (viewIn (k .switches) (k .position) t mode state))
+    cond (startsIn (k .control) t mode state) (start (t .switches) []) (seen (k .since) (viewIn (k .switches) (k .position) t mode state))
 
 -- with no settings in force a tick is refused, and changes nothing
 abbrev pub afterTick : Active → Known → Tick → Known
@@ -118,11 +118,11 @@ knownFrom k (e ∷ es) = knownFrom (next k e) es
 abbrev pub known : List Event → Known
 known es = knownFrom atFirst es
 
--- "the ticks from the latest homing start up to it spell a route of the sheet's method"
+-- demand 3: "the ticks from the latest homing start up to it spell a route of the sheet's method"
 abbrev pub CompletesSince : Active → Since → Type 0
 CompletesSince Nothing since = ⊥
 CompletesSince (Set s) never = ⊥
-CompletesSince (Set s) (start home views) = CompletesPlan (planOf (s .method) home) views
+CompletesSince (Set s) (start switches views) = CompletesPlan (planOf (s .method) switches) views
 
 abbrev pub RouteCompleted : Known → Type 0
 RouteCompleted k = CompletesSince (k .settings) (k .since)

@@ -26,6 +26,12 @@ HOM = switchesIn 4
 abbrev pub Z : Switches
 Z = switchesIn 8
 
+abbrev pub POT : Switches
+POT = switchesIn 1
+
+abbrev pub NOT : Switches
+NOT = switchesIn 2
+
 abbrev pub minus : ℕ → ℤ
 minus n = negℤ (pos n)
 

@@ -1,5 +1,5 @@
 -- Demands 1 and 2 over lists of events: no tick after a refused word tells that it came; the words of acceptable settings have them taken over,
--- whatever ticks fall between, and no other words do.
+-- whatever ticks fall between; and settings are in force only where their own fifteen words have come.
 -- Assumes nothing.
 use Prim.Native.Nat.{ℕ}
 use mathlib.Core.Path.{_≡_}
@@ -63,8 +63,8 @@ RoundTrip =
     (a : Axis) (s : Settings) (es : List Event) (w : ℕ) → acceptable s ≡ true → wordsIn es ++ w ∷ [] ≡ wordsOf s
     → liveOf (axisFrom a es .motion .state) ≡ false → TakesOver a s es w
 
--- the word that brought settings into force, and what came before it and after: the words up to it end in the fifteen words of the settings,
--- ticks aside, and the settings are acceptable
+-- a word of a list at which the fifteen words of acceptable settings end, ticks aside. That it took them over, with the drive not live, is
+-- what `Demand3` says of it (`in-force`).
 pub record Came (s : Settings) (es : List Event) : Type 0 where
   pub before : List Event
   pub last : ℕ

@@ -1,6 +1,6 @@
 -- A C program's settings words and ticks, in any order, each on the words that the one before left: the numbers and answers that it receives
 -- are the replies of the rules to that list. A call of `axis_fresh` begins another list, and the writer takes no axis. So the demands, which speak of the rules' replies, speak of what a C program
--- receives: demands 1 and 2 from any words on, demand 3 from fresh ones.
+-- receives: demand 1 and the round trip of demand 2 from any words on, uniqueness and demand 3 from fresh ones.
 -- Assumes nothing.
 use Prim.Native.Nat.{ℕ}
 use mathlib.Core.Path.{_≡_}

@@ -40,7 +40,8 @@ fittingOf n = cond (ltb n 256) (Text n) TooLong
 abbrev pub endedOf : List ℕ → Ended
 endedOf bs = fittingOf (withoutCR bs)
 
--- in a buffer with room for so many bytes: a line that does not fit there is too long as well
+-- in a buffer with room for so many bytes: a line that does not fit there, a CR at its end included, is too long as well. With room for 256
+-- that is no line but those that are too long anyway (`room-enough`).
 abbrev pub endedIn : ℕ → List ℕ → Ended
 endedIn room bs = cond (ltb room (length bs)) TooLong (endedOf bs)
 

@@ -12,9 +12,9 @@ use Rattle.legs.specs.declared.events.Switches.{Switches}
 use Rattle.legs.specs.Events.{View, allOff, switchesIn, eventCounts, limitCounts}
 use Rattle.legs.specs.Routes.{rowOf, planOf}
 use Rattle.homing.specs.Complete.{CompletesPlan}
-use Rattle.legs.specs.Places.{legAt}
+use Rattle.legs.specs.Numbers.{mainRoute, turnRoute, skipRoute, skips, startRoute}
 use Rattle.homing.specs.Phase.{homedIn}
-use Rattle.homing.specs.Places.{entered, limitAt, runningOf, startOf, stepAll}
+use Rattle.homing.specs.Steps.{runningOf, startOf, stepAll}
 use Rattle.homing.proofs.Simulation.{homing-iff}
 
 abbrev off : Switches
@@ -37,6 +37,9 @@ homeAndPositive = switchesIn 5
 
 abbrev homeAndNegative : Switches
 homeAndNegative = switchesIn 6
+
+abbrev bothLimits : Switches
+bothLimits = switchesIn 3
 
 -- a later tick: its position and switches, with bit 4 set and bit 8 clear
 pub data Tick : Type 0 where
@@ -62,10 +65,10 @@ abbrev watched : Example → List View
 watched e = views (e .position) (e .switches) (e .ticks)
 
 abbrev Completes : Example → Type 0
-Completes e = CompletesPlan (planOf (e .method) (e .switches .home)) (watched e)
+Completes e = CompletesPlan (planOf (e .method) (e .switches)) (watched e)
 
 abbrev homes : Example → Bool
-homes e = homedIn (stepAll (startOf (e .method) (e .switches .home)) (e .method) (watched e))
+homes e = homedIn (stepAll (startOf (e .method) (e .switches)) (e .method) (watched e))
 
 abbrev AllComplete : List Example → Type 0
 AllComplete [] = Unit
@@ -78,12 +81,12 @@ NoneCompletes (e ∷ es) = (Completes e → ⊥) × NoneCompletes es
 all-complete : (es : List Example) → map homes es ≡ map (λ e. true) es → AllComplete es
 all-complete [] q = tt
 all-complete (e ∷ es) q =
-    (homing-iff (e .method) (e .switches .home) (watched e) .0 (head-eq-of-cons-eq q), all-complete es (tail-eq-of-cons-eq q))
+    (homing-iff (e .method) (e .switches) (watched e) .0 (head-eq-of-cons-eq q), all-complete es (tail-eq-of-cons-eq q))
 
 none-completes : (es : List Example) → map homes es ≡ map (λ e. false) es → NoneCompletes es
 none-completes [] q = tt
 none-completes (e ∷ es) q = (
-  λ c. false≢true (sym (head-eq-of-cons-eq q) ∙ homing-iff (e .method) (e .switches .home) (watched e) .1 c),
+  λ c. false≢true (sym (head-eq-of-cons-eq q) ∙ homing-iff (e .method) (e .switches) (watched e) .1 c),
   none-completes es (tail-eq-of-cons-eq q),
 )
 
@@ -121,6 +124,16 @@ complete =
     ∷ start 30 100 off (at 90 home ∷ at 92 off ∷ at 90 home ∷ at 88 off ∷ [])
     ∷ start 30 100 off (at 80 negative ∷ at 85 home ∷ at 83 off ∷ [])
     ∷ start 30 100 home (at 95 off ∷ [])
+    -- 17 and 1, and 18 and 2 turned: from off the limit, and from on it, where the first leg is skipped; HOM plays no part
+    ∷ start 17 100 off (at 90 negative ∷ at 92 off ∷ [])
+    ∷ start 17 100 negative (at 102 off ∷ [])
+    ∷ start 17 100 home (at 90 negative ∷ at 91 homeAndNegative ∷ at 92 off ∷ [])
+    ∷ start 18 100 off (at 110 positive ∷ at 108 off ∷ [])
+    ∷ start 18 100 positive (at 98 off ∷ [])
+    ∷ start 1 100 off (at 90 negative ∷ at 92 off ∷ at 93 index ∷ [])
+    ∷ start 1 100 negative (at 102 off ∷ at 103 index ∷ [])
+    ∷ start 2 100 off (at 110 positive ∷ at 108 off ∷ at 107 index ∷ [])
+    ∷ start 2 100 positive (at 98 off ∷ at 97 index ∷ [])
     -- 33 and 34, whatever HOM is; 35 by the start tick alone
     ∷ start 33 100 off (at 99 index ∷ [])
     ∷ start 33 100 home (at 99 index ∷ [])
@@ -129,7 +142,7 @@ complete =
     ∷ []
 
 pub examples-complete : AllComplete complete
-unfolding rowOf legAt entered limitAt runningOf startOf eventCounts limitCounts wrapped modulo signed
+unfolding rowOf mainRoute turnRoute skipRoute skips startRoute runningOf startOf eventCounts limitCounts wrapped modulo signed
 examples-complete = all-complete complete refl
 
 abbrev incomplete : List Example
@@ -146,8 +159,25 @@ incomplete =
     ∷ start 23 100 off (at 110 home ∷ at 108 homeAndNegative ∷ at 103 off ∷ [])
     -- the limit behind does not turn
     ∷ start 23 100 off (at 120 negative ∷ at 115 home ∷ at 117 off ∷ at 116 home ∷ at 114 off ∷ [])
+    -- on the limits: a drop while still coasting
+    ∷ start 17 100 off (at 90 negative ∷ at 88 off ∷ [])
+    ∷ start 18 100 off (at 110 positive ∷ at 112 off ∷ [])
+    -- a rise without movement is lost, and is no error: the next one counts as ever, and was not met
+    ∷ start 17 100 off (at 100 negative ∷ at 102 off ∷ [])
+    ∷ start 2 100 off (at 100 positive ∷ at 98 off ∷ at 97 index ∷ [])
+    -- the wrong switch
+    ∷ start 17 100 off (at 90 positive ∷ at 92 off ∷ [])
+    ∷ start 18 100 negative (at 98 off ∷ [])
+    ∷ start 1 100 home (at 102 off ∷ at 103 index ∷ [])
+    -- the other limit, in a later leg, is an error
+    ∷ start 17 100 negative (at 102 bothLimits ∷ at 104 positive ∷ [])
+    ∷ start 2 100 positive (at 98 bothLimits ∷ at 96 negative ∷ at 95 index ∷ [])
+    -- the third leg is not forgotten, and a rise of Z in the tick of the drop is used up
+    ∷ start 1 100 off (at 90 negative ∷ at 92 off ∷ [])
+    ∷ start 1 100 negative (at 102 index ∷ at 103 index ∷ [])
+    ∷ start 2 100 positive (at 98 index ∷ at 97 index ∷ [])
     ∷ []
 
 pub examples-miss : NoneCompletes incomplete
-unfolding rowOf legAt entered limitAt runningOf startOf eventCounts limitCounts wrapped modulo signed
+unfolding rowOf mainRoute turnRoute skipRoute skips startRoute runningOf startOf eventCounts limitCounts wrapped modulo signed
 examples-miss = none-completes incomplete refl

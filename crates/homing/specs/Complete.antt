@@ -24,7 +24,7 @@ pub record Cut (Before Last : View → Type 0) (After : List View → Type 0) (v
   pub then : After rest
 
 -- a tick of leg l's segment before its end: it does not idle homing, the leg's event does not count, and no limit rise counts, which
--- would set the error or, in a's first leg, turn to b
+-- would set the error or, in a first leg that has a b, turn to it
 pub record Waits (l : Leg) (v : View) : Type 0 where
   pub kept : So (v .kept)
   pub uncounted : eventCounts l v ≡ false
@@ -55,7 +55,7 @@ abbrev pub CompletesTurn : List Leg → Option (List Leg) → List View → Type
 CompletesTurn [] t vs = ⊥
 CompletesTurn (l ∷ ls) t vs = Cut (Waits l) (Turns l) (CompletesAfterTurn t) vs
 
--- "a or b with HOM off, c with it on": 33, 34 and 35 have no b, and their c is their a
+-- "a or b with HOM off, c with it on", and with a limit for HOM in 02's methods: the plan has either. Where there is no b, nothing turns.
 abbrev pub CompletesRoute : Plan → List View → Type 0
 CompletesRoute p vs = Completes (p .main) vs ⊎ CompletesTurn (p .main) (p .turn) vs
 

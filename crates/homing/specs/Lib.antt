@@ -1,5 +1,5 @@
 pub mod Complete
 pub mod Progress
 pub mod Phase
-pub mod Places
+pub mod Steps
 pub mod Moving

@@ -1,27 +1,18 @@
--- The leg in which the axis moves after a tick, and what a step of the code hands out.
+-- The leg in which the axis moves after a tick.
 -- Assumes nothing.
-use Prim.Native.Nat.{ℕ}
-use mathlib.Core.Path.{_≡_}
 use mathlib.Core.Bool.{Bool, cond}
-use Rattle.legs.specs.Found.{Found}
-use Rattle.legs.specs.Found as found
-use Rattle.legs.specs.Places.{legAt}
-use Rattle.legs.specs.Digits.{legInDigit}
-use Rattle.homing.specs.Phase.{Phase, Idle, Running, Homed, Failed, phaseOf}
-use Rattle.homing.specs.declared.Stand.{Stand}
+use mathlib.Core.Option.{Option, none, some}
+use Rattle.legs.specs.Legs.{Leg}
+use Rattle.legs.specs.Numbers.{legFrom}
+use Rattle.homing.specs.Phase.{Phase, Idle, Running, Homed, Failed}
 
 -- the leg that runs
-abbrev pub runningLeg : ℕ → Phase → Found
-runningLeg method Idle = found.Nothing
-runningLeg method (Running place) = legAt method place
-runningLeg method Homed = found.Nothing
-runningLeg method Failed = found.Nothing
+abbrev pub runningLeg : Phase → Option Leg
+runningLeg Idle = none
+runningLeg (Running route) = some (legFrom route)
+runningLeg Homed = none
+runningLeg Failed = none
 
 -- a halted tick moves nothing
-abbrev pub movingLeg : ℕ → Phase → Bool → Found
-movingLeg method phase halted = cond halted found.Nothing (runningLeg method phase)
-
--- homing stands in this phase, and the leg is the one that moves
-pub record Stands (method : ℕ) (after : Phase) (halted : Bool) (r : Stand) : Type 0 where
-  pub phase : phaseOf (r .phase) ≡ after
-  pub leg : legInDigit (r .leg) ≡ movingLeg method after halted
+abbrev pub movingLeg : Phase → Bool → Option Leg
+movingLeg phase halted = cond halted none (runningLeg phase)

@@ -1,5 +1,5 @@
 -- 01, "Homing routes": homing tick by tick along a plan's legs, whatever the plan. It stands between the reading of a completed route
--- (`Complete`) and the places that the public calls promise (`Places`): one theorem each way.
+-- (`Complete`) and the numbers that the public calls promise (`Steps`): one theorem each way.
 -- Assumes nothing.
 use mathlib.Core.Bool.{Bool, true, false, cond}
 use mathlib.Core.List.{List, [], _∷_}

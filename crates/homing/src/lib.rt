@@ -1,138 +1,88 @@
 // Homing (01: "Homing routes"): where it stands after a tick.
 use legs::events;
 use legs::events::Seen;
+ghost use Prim.Native.Nat.{_<_, _^_};
 ghost use mathlib.Core.Path.{_≡_};
-ghost use mathlib.Core.Bool.{false, cond};
-ghost use Rattle.legs.specs.Events.{viewOf};
-ghost use Rattle.legs.specs.Places.{homePlace};
+ghost use mathlib.Core.Bool.{true};
+ghost use Rattle.legs.specs.Events.{switchesIn, viewOf};
 ghost use Rattle.homing.specs.Phase.{phaseOf, homedIn, runningIn, failedIn};
-ghost use Rattle.homing.specs.Places.{entered, limitAt, runningOf, startOf, stepOf, stoppedOf};
-ghost use Rattle.homing.specs.Moving.{Stands};
+ghost use Rattle.homing.specs.Steps.{entered, limitAt, runningOf, startOf, stepOf, stoppedOf};
 
-// Where homing stands, as one number: idle, homed, failed, or RUNNING and the running leg's place in its method's row.
+// Where homing stands, as one number: idle, homed, failed, or else the running leg and those after it, a route of `legs`.
 pub const IDLE: u32 = 0;
 
-pub const HOMED: u32 = 1;
+pub const HOMED: u32 = 0x8000_0000;
 
-pub const FAILED: u32 = 2;
+pub const FAILED: u32 = 0x8000_0001;
 
-pub const RUNNING: u32 = 3;
-
-// Homing after a tick, and the leg in which the axis moves then: no leg where none runs or the tick is halted.
-pub struct Stand {
-    pub phase: u32,
-    pub leg: u32,
-}
-
-// In a phase, and no leg moves.
-fn resting(phase: u32) -> Stand
-    ensures phase { λ r. ⌜ r .phase ≡ phase ⌝ }
-    ensures leg { λ r. ⌜ r .leg ≡ 0 ⌝ }
+// A route's first leg runs; the axis is homed where there is none.
+fn enter(route: u32) -> u32
+    requires { ⌜ route < 2 ^ 31 ⌝ }
+    ensures { λ r. ⌜ phaseOf r ≡ entered route ⌝ }
 {
-    Stand { phase, leg: 0 }
-}
-
-// At a place, or homed where the route has no leg there.
-fn enter(method: u32, place: u32) -> Stand
-    ensures { λ r. ⌜ Stands method (entered method place) false r ⌝ }
-{
-    let leg = legs::leg_at(method, place);
-    if legs::is_leg(leg) {
-        Stand {
-            phase: RUNNING + place,
-            leg,
-        }
-    } else {
-        resting(HOMED)
-    }
+    if route == 0 { HOMED } else { route }
 }
 
 // A limit turns route a's first leg to route b's second; any other leg fails.
-fn at_limit(method: u32, place: u32) -> Stand
-    ensures { λ r. ⌜ Stands method (limitAt method place) false r ⌝ }
+fn at_limit(route: u32, method: u32) -> u32
+    ensures { λ r. ⌜ phaseOf r ≡ limitAt method route ⌝ }
 {
-    match method {
-        23..=30 => {
-            if place == 0 {
-                enter(method, legs::TURN)
-            } else {
-                resting(FAILED)
-            }
-        }
-        _ => resting(FAILED),
+    if !legs::turns(route) {
+        return FAILED;
     }
+    let turned = legs::turn_route(method);
+    if turned == 0 { FAILED } else { turned }
 }
 
-// One tick in a leg. In a halted one nothing counts, and nothing moves.
-fn run(method: u32, place: u32, seen: Seen) -> Stand
-    ensures { λ r. ⌜ Stands method (runningOf method place (viewOf seen)) (seen .halted) r ⌝ }
+// One tick in a route's first leg. In a halted one nothing counts.
+fn run(route: u32, method: u32, seen: Seen) -> u32
+    requires { ⌜ runningIn (phaseOf route) ≡ true ⌝ }
+    ensures { λ r. ⌜ phaseOf r ≡ runningOf method route (viewOf seen) ⌝ }
 {
-    let leg = legs::leg_at(method, place);
-    if !legs::is_leg(leg) {
-        return resting(FAILED);
-    }
     if !seen.kept {
-        return resting(IDLE);
+        return IDLE;
     }
     if seen.halted {
-        return resting(RUNNING + place);
+        return route;
     }
-    if events::event_counts(leg, seen) {
-        return enter(method, place + 1);
+    if events::event_counts(route, seen) {
+        return enter(route / 256);
     }
-    if events::limit_counts(leg, seen) {
-        at_limit(method, place)
+    if events::limit_counts(route, seen) {
+        at_limit(route, method)
     } else {
-        Stand {
-            phase: RUNNING + place,
-            leg,
-        }
+        route
     }
 }
 
-fn first_place(method: u32, home: bool) -> u32
-    ensures { λ r. ⌜ r ≡ cond home (homePlace method) 0 ⌝ }
+// Homing after its start tick, with this tick's switches, as bits. A number that is no method makes homing idle.
+pub fn start(method: u32, switches: u32) -> u32
+    ensures { λ r. ⌜ phaseOf r ≡ startOf method (switchesIn switches) ⌝ }
 {
-    if home { legs::home_place(method) } else { 0 }
-}
-
-// Homing after its start tick; home is HOM in that tick, halted its bit 8. A number that is no method makes homing idle.
-pub fn start(method: u32, home: bool, halted: bool) -> Stand
-    ensures { λ r. ⌜ Stands method (startOf method home) halted r ⌝ }
-{
-    match method {
-        23..=30 | 33..=35 => {
-            let entered = enter(method, first_place(method, home));
-            if halted {
-                resting(entered.phase)
-            } else {
-                entered
-            }
-        }
-        _ => resting(IDLE),
+    let route = legs::start_route(method, switches);
+    if (route == 0) & (method != 35) {
+        IDLE
+    } else {
+        enter(route)
     }
 }
 
 // Homing after a later tick.
-pub fn step(phase: u32, method: u32, seen: Seen) -> Stand
-    ensures { λ r. ⌜ Stands method (stepOf (phaseOf phase) method (viewOf seen)) (seen .halted) r ⌝ }
+pub fn step(phase: u32, method: u32, seen: Seen) -> u32
+    ensures { λ r. ⌜ phaseOf r ≡ stepOf (phaseOf phase) method (viewOf seen) ⌝ }
 {
-    if phase < RUNNING {
-        resting(phase)
+    if is_running(phase) {
+        run(phase, method, seen)
     } else {
-        run(method, phase - RUNNING, seen)
+        phase
     }
 }
 
 // Homing after a later tick that does not keep it.
-pub fn stop(phase: u32, method: u32) -> u32
-    ensures { λ r. ⌜ phaseOf r ≡ stoppedOf (phaseOf phase) method ⌝ }
+pub fn stop(phase: u32) -> u32
+    ensures { λ r. ⌜ phaseOf r ≡ stoppedOf (phaseOf phase) ⌝ }
 {
-    if phase < RUNNING {
-        return phase;
-    }
-    let leg = legs::leg_at(method, phase - RUNNING);
-    if legs::is_leg(leg) { IDLE } else { FAILED }
+    if is_running(phase) { IDLE } else { phase }
 }
 
 pub fn is_homed(phase: u32) -> bool
@@ -144,11 +94,11 @@ pub fn is_homed(phase: u32) -> bool
 pub fn is_running(phase: u32) -> bool
     ensures { λ r. ⌜ r ≡ runningIn (phaseOf phase) ⌝ }
 {
-    phase >= RUNNING
+    (phase != IDLE) & (phase < HOMED)
 }
 
 pub fn has_failed(phase: u32) -> bool
     ensures { λ r. ⌜ r ≡ failedIn (phaseOf phase) ⌝ }
 {
-    phase == FAILED
+    phase > HOMED
 }

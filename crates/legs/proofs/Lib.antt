@@ -1,4 +1,3 @@
 pub mod Computed
 pub mod Rows
-pub mod Table
-pub mod Digit
+pub mod Numbers

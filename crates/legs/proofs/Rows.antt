@@ -1,135 +1,126 @@
--- Which numbers are methods, which methods have a turn, and that every route ends within its four places: tests that antt computes.
+-- Which numbers are methods, which switch picks route c, and how the code finds the routes: tests that antt computes over the table.
 -- Assumes nothing.
-use mathlib.Core.Path.{_≡_, refl, subst, _∙_}
+use mathlib.Core.Path.{_≡_, refl, subst}
 use mathlib.Core.Bool.{Bool, true, false, cond, _||_}
-use mathlib.Core.List.{List, [], _∷_}
+use mathlib.Core.List.{List, [], _∷_, map, head-eq-of-cons-eq, tail-eq-of-cons-eq}
 use mathlib.Core.Option.{Option, none, some}
-use Prim.Native.Nat.{ℕ, _≤_, _<_}
+use Prim.Native.Nat.{ℕ, _+_, _-_, _/_, _^_, _≤_, _<_}
 use native.Mathlib.Omega.{arith}
-use lib.Dec.{T, eqb, ltb, ltb→lt}
-use lib.ListN.{length}
+use lib.Dec.{eqb, leb, ltb}
 use Rattle.counts.specs.Between.{between}
-use Rattle.counts.proofs.Between.{within, under, over}
-use borrow.Author.Tests.{eqb-true, ltb-true, ltb-false, ne-eqb}
-use Rattle.legs.specs.Legs.{Leg}
+use Rattle.ranges.specs.Range.{methodOk}
+use Rattle.counts.proofs.Between.{over}
+use borrow.Author.Tests.{eqb-true, leb-true, ltb-true, ltb-false, le-ltb, ne-eqb}
+use Rattle.legs.specs.declared.events.Switches.{Switches}
 use Rattle.legs.specs.Routes.{Row, Entry, table, lookup, rowOf}
-use Rattle.legs.specs.Places.{rest, hasTurn}
+use Rattle.legs.specs.Numbers.{mainIn, turnIn, skipIn, picksIn, mainRoute, turnRoute, skipRoute, skips}
 use Rattle.legs.proofs.Computed.{listed, agree}
 
--- a test that every entry of a table passes, and what it says of a row that is found
-abbrev both : Bool → Bool → Bool
-both true b = b
-both false b = false
-
-both-left : (a b : Bool) → T (both a b) → T a
-both-left true b t = tt
-both-left false b t = t
-
-both-right : (a b : Bool) → T (both a b) → T b
-both-right true b t = t
-both-right false b t = absurd t
-
-abbrev every : (Entry → Bool) → List Entry → Bool
-every f [] = true
-every f (e ∷ es) = both (f e) (every f es)
-
-found-passes : (f : Row → Bool) (m : ℕ) (r : Row) (es : List Entry) → T (every (λ e. f (e .row)) es) → lookup m es ≡ some r → T (f r)
-found-passes f m r [] t q = let z : _≡_ {A = ℕ} 0 1 = cc in absurd (omega arith)
-found-passes f m r (e ∷ es) t q = go (eqb m (e .method)) (found-passes f m r es (both-right (f (e .row)) _ t)) q
+-- what is computed of every entry of a table is so of a row that is found
+pub found-same : {A : Type 0} (f g : ℕ → Row → A) (m : ℕ) (r : Row) (es : List Entry)
+    → map (λ e. f (e .method) (e .row)) es ≡ map (λ e. g (e .method) (e .row)) es → lookup m es ≡ some r → f m r ≡ g m r
+found-same f g m r [] q p = let z : _≡_ {A = ℕ} 0 1 = cc in absurd (omega arith)
+found-same f g m r (e ∷ es) q p = go (eqb m (e .method)) refl (found-same f g m r es (tail-eq-of-cons-eq q)) p
   where
-    go : (b : Bool) → (lookup m es ≡ some r → T (f r)) → cond b (some (e .row)) (lookup m es) ≡ some r → T (f r)
-    go true ih p = let s : e .row ≡ r = cc in subst (λ x. T (f x)) s (both-left (f (e .row)) _ t)
-    go false ih p = ih p
-
--- what holds of every entry holds of a row that is found
-abbrev pub Every : (ℕ → Row → Type 0) → List Entry → Type 0
-Every P [] = Unit
-Every P (e ∷ es) = P (e .method) (e .row) × Every P es
-
-pub found-holds : (P : ℕ → Row → Type 0) (m : ℕ) (r : Row) (es : List Entry) → Every P es → lookup m es ≡ some r → P m r
-found-holds P m r [] h q = let z : _≡_ {A = ℕ} 0 1 = cc in absurd (omega arith)
-found-holds P m r (e ∷ es) h q = go (eqb m (e .method)) refl (found-holds P m r es (h .1)) q
-  where
-    go : (b : Bool) → eqb m (e .method) ≡ b → (lookup m es ≡ some r → P m r) → cond b (some (e .row)) (lookup m es) ≡ some r → P m r
-    go true t ih p = let s : e .row ≡ r = cc in rw (eqb-true m (e .method) t) (subst (λ x. P (e .method) x) s (h .0))
+    go : (b : Bool) → eqb m (e .method) ≡ b → (lookup m es ≡ some r → f m r ≡ g m r) → cond b (some (e .row)) (lookup m es) ≡ some r → f m r ≡ g m r
+    go true t ih p = let s : e .row ≡ r = cc in rw (eqb-true m (e .method) t) (subst (λ x. f (e .method) x ≡ g (e .method) x) s (head-eq-of-cons-eq q))
     go false t ih p = ih p
 
--- each route of a row ends within its four places
-abbrev fits : List Leg → Bool
-fits ls = ltb (length ls) 4
-
-abbrev pub roomy : Row → Bool
-roomy r = both (fits (r .a)) (fits (rest (r .b)))
-
-pub record Roomy (r : Row) : Type 0 where
-  pub first : length (r .a) < 4
-  pub turned : length (rest (r .b)) < 4
-
-pub row-roomy : (m : ℕ) (r : Row) → rowOf m ≡ some r → Roomy r
-unfolding rowOf
-row-roomy m r q =
-    let t = found-passes roomy m r table tt q in
-    record {
-      first = ltb→lt (length (r .a)) 4 (both-left (fits (r .a)) _ t);
-      turned = ltb→lt (length (rest (r .b))) 4 (both-right (fits (r .a)) _ t);
-    }
-
 -- no method is 36 or more
-absent : (m : ℕ) (es : List Entry) → T (every (λ e. ltb (e .method) 36) es) → 36 ≤ m → lookup m es ≡ none
-absent m [] t h = refl
-absent m (e ∷ es) t h =
-    let k : e .method < 36 = ltb→lt (e .method) 36 (both-left (ltb (e .method) 36) _ t) in
-    rw (ne-eqb m (e .method) (λ p. omega arith)) (absent m es (both-right (ltb (e .method) 36) _ t) h)
+absent : (m : ℕ) (es : List Entry) → map (λ e. ltb (e .method) 36) es ≡ map (λ e. true) es → 36 ≤ m → lookup m es ≡ none
+absent m [] q h = refl
+absent m (e ∷ es) q h =
+    let k : e .method < 36 = ltb-true (e .method) 36 (head-eq-of-cons-eq q) in
+    rw (ne-eqb m (e .method) (λ p. omega arith)) (absent m es (tail-eq-of-cons-eq q) h)
 
-beyond : (m : ℕ) → 36 ≤ m → rowOf m ≡ none
+pub beyond : (m : ℕ) → 36 ≤ m → rowOf m ≡ none
 unfolding rowOf
-beyond m h = absent m table tt h
+beyond m h = absent m table refl h
 
--- a test of rows agrees with a test of numbers everywhere, if it does below 36 and both are false from 36 on
-everywhere : (f : Option Row → Bool) (g : ℕ → Bool) → listed (λ m. f (rowOf m)) 0 36 ≡ listed g 0 36
-    → f none ≡ false → ((m : ℕ) → 36 ≤ m → g m ≡ false)
+-- what is computed of every number below 36, and of those with no row, is so of every number
+pub everywhere : {A : Type 0} (f : Option Row → A) (g : ℕ → A) → listed (λ m. f (rowOf m)) 0 36 ≡ listed g 0 36
+    → ((m : ℕ) → 36 ≤ m → f none ≡ g m)
     → (m : ℕ) → f (rowOf m) ≡ g m
-everywhere f g e p q m = go (ltb m 36) refl
+everywhere f g e far m = go (ltb m 36) refl
   where
     go : (b : Bool) → ltb m 36 ≡ b → f (rowOf m) ≡ g m
     go true t = agree (λ n. f (rowOf n)) g 36 e m (ltb-true m 36 t)
-    go false t = let h = ltb-false m 36 t in rw (beyond m h, q m h) p
+    go false t = let h = ltb-false m 36 t in rw (beyond m h) (far m h)
 
--- "methods 23 to 30" have a turn
-pub turn-rule : (m : ℕ) → hasTurn (rowOf m) ≡ between 23 30 m
-unfolding rowOf
-turn-rule = everywhere hasTurn (between 23 30) refl refl (λ m h. over 23 30 m (omega arith) (omega arith))
-
--- "method 23 to 30, 33, 34 or 35"
+-- the methods of the table are those that a sheet admits
 abbrev pub isRow : Option Row → Bool
 isRow none = false
 isRow (some r) = true
 
-abbrev pub known : ℕ → Bool
-known m = between 23 30 m || between 33 35 m
+pub method-rule : (m : ℕ) → isRow (rowOf m) ≡ methodOk m
+unfolding rowOf methodOk
+method-rule =
+    everywhere isRow methodOk refl (λ n h. rw (
+      over 1 2 n (omega arith) (omega arith),
+      over 17 18 n (omega arith) (omega arith),
+      over 23 30 n (omega arith) (omega arith),
+      over 33 35 n (omega arith) (omega arith),
+    ))
 
-pub known-rule : (m : ℕ) → isRow (rowOf m) ≡ known m
-unfolding rowOf
-known-rule = everywhere isRow known refl refl (λ m h. rw (over 23 30 m (omega arith) (omega arith), over 33 35 m (omega arith) (omega arith)))
+-- which switch picks route c, by the method's number
+abbrev pub pickedBy : ℕ → Switches → Bool
+pickedBy m s =
+    cond (between 23 30 m) (s .home) (cond (eqb m 1 || eqb m 17) (s .negative) (cond (eqb m 2 || eqb m 18) (s .positive) false))
 
-pub known-low : (m : ℕ) → 23 ≤ m → m ≤ 30 → known m ≡ true
-known-low m h k = rw (within 23 30 m h k)
+pub skip-rule : (m : ℕ) (s : Switches) → skips m s ≡ pickedBy m s
+unfolding rowOf skips
+skip-rule m s =
+    everywhere (λ o. picksIn o s) (λ n. pickedBy n s) refl (λ n h. rw (
+      over 23 30 n (omega arith) (omega arith),
+      ne-eqb n 1 (λ p. omega arith),
+      ne-eqb n 17 (λ p. omega arith),
+      ne-eqb n 2 (λ p. omega arith),
+      ne-eqb n 18 (λ p. omega arith),
+    )) m
 
-pub known-high : (m : ℕ) → 33 ≤ m → m ≤ 35 → known m ≡ true
-known-high m h k = rw (over 23 30 m (omega arith) (omega arith), within 33 35 m h k)
+-- Where the code finds the other routes: b goes on as route a of the method 53 less, whose first leg turns, and c is b without its first
+-- two legs, a without its first, or a itself.
+abbrev pub turnBy : ℕ → ℕ
+turnBy m = cond (between 23 30 m) (mainRoute (53 - m) - 32) 0
 
-pub below-all : (m : ℕ) → m < 23 → known m ≡ false
-below-all m h = rw (under 23 30 m h, under 33 35 m (omega arith))
+pub turn-rule : (m : ℕ) → turnRoute m ≡ turnBy m
+unfolding rowOf mainRoute turnRoute
+turn-rule = everywhere turnIn turnBy refl (λ n h. rw (over 23 30 n (omega arith) (omega arith)))
 
-pub between-both : (m : ℕ) → 30 < m → m < 33 → known m ≡ false
-between-both m h k = rw (over 23 30 m (omega arith) h, under 33 35 m k)
+abbrev pub skipBy : ℕ → ℕ
+skipBy m =
+    cond (between 25 26 m || between 29 30 m) (turnRoute m / 256) (cond (ltb m 33) (mainRoute m / 256) (mainRoute m))
 
-pub above-all : (m : ℕ) → 35 < m → known m ≡ false
-above-all m h = rw (over 23 30 m (omega arith) (omega arith), over 33 35 m (omega arith) h)
+pub skip-by-rule : (m : ℕ) → skipRoute m ≡ skipBy m
+unfolding rowOf mainRoute turnRoute skipRoute
+skip-by-rule =
+    everywhere skipIn skipBy refl (λ n h. rw (
+      over 25 26 n (omega arith) (omega arith),
+      over 29 30 n (omega arith) (omega arith),
+      le-ltb n 33 (omega arith),
+      beyond n h,
+    ))
 
-pub unknown : (m : ℕ) → known m ≡ false → rowOf m ≡ none
-unknown m k = go (rowOf m) (known-rule m ∙ k)
-  where
-    go : (o : Option Row) → isRow o ≡ false → o ≡ none
-    go none e = refl
-    go (some r) e = let z : _≡_ {A = ℕ} 0 1 = cc in absurd (omega arith)
+-- routes fit in three bytes, and a first leg that turns has 32 to give
+small : (f : Option Row → ℕ) → listed (λ m. ltb (f (rowOf m)) (2 ^ 24)) 0 36 ≡ listed (λ m. true) 0 36 → ltb (f none) (2 ^ 24) ≡ true
+    → (m : ℕ) → f (rowOf m) < 2 ^ 24
+small f e z m = ltb-true (f (rowOf m)) (2 ^ 24) (everywhere (λ o. ltb (f o) (2 ^ 24)) (λ n. true) e (λ n h. z) m)
+
+pub main-small : (m : ℕ) → mainRoute m < 2 ^ 24
+unfolding rowOf mainRoute
+main-small = small mainIn refl refl
+
+pub turn-small : (m : ℕ) → turnRoute m < 2 ^ 24
+unfolding rowOf turnRoute
+turn-small = small turnIn refl refl
+
+pub skip-small : (m : ℕ) → skipRoute m < 2 ^ 24
+unfolding rowOf skipRoute
+skip-small = small skipIn refl refl
+
+pub turns-main : (m : ℕ) → 23 ≤ m → m ≤ 30 → 32 ≤ mainRoute m
+unfolding rowOf mainRoute
+turns-main m h k =
+    let e = agree (λ j. leb 32 (mainRoute (23 + j))) (λ j. true) 8 refl (m - 23) (omega arith) in
+    let q : 23 + (m - 23) ≡ m = omega arith in
+    leb-true 32 (mainRoute m) (rw q at e)

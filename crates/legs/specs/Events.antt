@@ -7,9 +7,7 @@ use Rattle.counts.specs.declared.Movement.{Movement}
 use Rattle.counts.specs.declared.Movement.the-variants.{Backward, Still, Forward}
 use Rattle.legs.specs.declared.events.Switches.{Switches}
 use Rattle.legs.specs.declared.events.Seen.{Seen}
-use Rattle.legs.specs.Legs.{Switch, Home, Index, LimitAhead, Edge, Rise, Drop, Leg}
-use Rattle.legs.specs.Found.{Found}
-use Rattle.legs.specs.Found as found
+use Rattle.legs.specs.Legs.{Switch, Home, Index, LimitAhead, LimitBehind, Edge, Rise, Drop, Leg}
 
 abbrev pub allOff : Switches
 allOff = record { positive = false; negative = false; home = false; index = false }
@@ -55,6 +53,7 @@ abbrev pub switchOf : Switch → Bool → Switches → Bool
 switchOf Home forward s = s .home
 switchOf Index forward s = s .index
 switchOf LimitAhead forward s = limitAhead forward s
+switchOf LimitBehind forward s = limitAhead (not forward) s
 
 -- the switch that a leg awaits has the leg's edge
 abbrev pub edgeSeen : Leg → View → Bool
@@ -68,25 +67,19 @@ movementFits l v = not (l .moving) || along (l .forward) (v .movement)
 abbrev pub limitRises : Bool → View → Bool
 limitRises forward v = rises (limitAhead forward (v .before)) (limitAhead forward (v .now))
 
--- the leg's event counts: "With bit 8 (halt) set nothing counts. Otherwise R, D and Z count only if [the movement] has the leg's sign."
+-- the leg's event counts: "With bit 8 (halt) set nothing counts. Otherwise R, D and Z count only if [the movement] has the leg's sign", and so
+-- do A and B
 unfoldable pub eventCounts : Leg → View → Bool
 eventCounts l v = not (v .halted) && (movementFits l v && edgeSeen l v)
 
--- "A limit rise in travel direction, with or without movement"; and in a halted tick nothing counts. That the event of the same tick goes
--- first is said where both are asked (`advance`, `legTick`).
+-- the switch that a leg awaits is the limit ahead
+abbrev pub isAhead : Switch → Bool
+isAhead Home = false
+isAhead Index = false
+isAhead LimitAhead = true
+isAhead LimitBehind = false
+
+-- "A limit rise in travel direction, with or without movement"; "The awaited switch's rise is no homing error" (02, (i)); and in a halted
+-- tick nothing counts. That the event of the same tick goes first is said where both are asked (`advance`, `legTick`).
 unfoldable pub limitCounts : Leg → View → Bool
-limitCounts l v = not (v .halted) && limitRises (l .forward) v
-
--- where no leg stands nothing counts
-abbrev pub foundCounts : Found → View → Bool
-foundCounts (found.Leg l) v = eventCounts l v
-foundCounts found.Nothing v = false
-
-abbrev pub foundLimitCounts : Found → View → Bool
-foundLimitCounts (found.Leg l) v = limitCounts l v
-foundLimitCounts found.Nothing v = false
-
--- and no edge is seen
-abbrev pub foundEdge : Found → View → Bool
-foundEdge (found.Leg l) v = edgeSeen l v
-foundEdge found.Nothing v = false
+limitCounts l v = not (v .halted) && (not (isAhead (l .switch)) && limitRises (l .forward) v)

@@ -2,9 +2,9 @@
 -- Assumes nothing.
 use mathlib.Core.Bool.{Bool}
 
--- what a leg's event looks at; LimitAhead is the limit in travel direction
+-- what a leg's event looks at; LimitAhead is the limit in travel direction, LimitBehind the other
 pub data Switch : Type 0 where
-  Home Index LimitAhead : Switch
+  Home Index LimitAhead LimitBehind : Switch
 
 pub data Edge : Type 0 where
   Rise Drop : Edge

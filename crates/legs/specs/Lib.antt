@@ -1,6 +1,4 @@
 pub mod Legs
-pub mod Found
 pub mod Events
 pub mod Routes
-pub mod Places
-pub mod Digits
+pub mod Numbers

@@ -1,11 +1,12 @@
--- 01, "Homing routes": the table of routes, and the routes that a start allows.
+-- 01, "Homing routes", and 02, (i): the table of routes, and the routes that a start allows.
 -- Assumes nothing.
 use Prim.Native.Nat.{ℕ}
 use mathlib.Core.Bool.{Bool, true, false, not, cond}
 use mathlib.Core.List.{List, [], _∷_, map}
 use mathlib.Core.Option.{Option, none, some}
 use lib.Dec.{eqb}
-use Rattle.legs.specs.Legs.{Switch, Home, Index, LimitAhead, Edge, Rise, Drop, Leg}
+use Rattle.legs.specs.declared.events.Switches.{Switches}
+use Rattle.legs.specs.Legs.{Switch, Home, Index, LimitAhead, LimitBehind, Edge, Rise, Drop, Leg}
 
 -- an event: the switch, its edge, and whether it counts only with movement in the leg's direction
 pub record Event : Type 0 where
@@ -25,6 +26,13 @@ L = record { switch = LimitAhead; edge = Rise; moving = false }
 
 abbrev pub Z : Event
 Z = record { switch = Index; edge = Rise; moving = true }
+
+-- 02, (i): A the limit ahead rises, B the limit behind drops. "Those rises and drops count by movement, as HOM's do."
+abbrev pub A : Event
+A = record { switch = LimitAhead; edge = Rise; moving = true }
+
+abbrev pub B : Event
+B = record { switch = LimitBehind; edge = Drop; moving = true }
 
 -- "A leg is direction, speed (F fast, S slow) and event"
 abbrev pub legOf : Bool → Bool → Event → Leg
@@ -46,34 +54,54 @@ abbrev pub -S : Event → Leg
 abbrev pub toLimit : Leg → Leg
 toLimit l = legOf (l .forward) (l .fast) L
 
--- the table's columns: "a: HOM off", "b: limit met in a's first leg", "c: HOM on"
+-- the table's columns: "a: HOM off", "b: limit met in a's first leg", "c: HOM on"; and `picks`, the switch whose level in the start tick picks c:
+-- HOM in 01's rows
 pub record Row : Type 0 where
+  pub picks : Switches → Bool
   pub a : List Leg
   pub b : List Leg
   pub c : List Leg
 
+abbrev HOM : Switches → Bool
+HOM s = s .home
+
+abbrev NOT : Switches → Bool
+NOT s = s .negative
+
 abbrev row23 : Row
-row23 = record { a = +F R ∷ -S D ∷ []; b = +F L ∷ -F R ∷ +S D ∷ -S D ∷ []; c = -S D ∷ [] }
+row23 = record { picks = HOM; a = +F R ∷ -S D ∷ []; b = +F L ∷ -F R ∷ +S D ∷ -S D ∷ []; c = -S D ∷ [] }
 
 abbrev row24 : Row
-row24 = record { a = +F R ∷ -S D ∷ +S R ∷ []; b = +F L ∷ -F D ∷ +S R ∷ []; c = -S D ∷ +S R ∷ [] }
+row24 = record { picks = HOM; a = +F R ∷ -S D ∷ +S R ∷ []; b = +F L ∷ -F D ∷ +S R ∷ []; c = -S D ∷ +S R ∷ [] }
 
 abbrev row25 : Row
-row25 = record { a = +F D ∷ -S R ∷ []; b = +F L ∷ -F R ∷ +S D ∷ -S R ∷ []; c = +S D ∷ -S R ∷ [] }
+row25 = record { picks = HOM; a = +F D ∷ -S R ∷ []; b = +F L ∷ -F R ∷ +S D ∷ -S R ∷ []; c = +S D ∷ -S R ∷ [] }
 
 abbrev row26 : Row
-row26 = record { a = +F R ∷ -S D ∷ +S D ∷ []; b = +F L ∷ -F R ∷ +S D ∷ []; c = +S D ∷ [] }
+row26 = record { picks = HOM; a = +F R ∷ -S D ∷ +S D ∷ []; b = +F L ∷ -F R ∷ +S D ∷ []; c = +S D ∷ [] }
 
--- "27 to 30 are 23 to 26 with signs turned and NOT for POT": the limit ahead follows the direction by itself
+-- "Method 17 is −F until NOT rises, then +S until NOT drops; with NOT on at the start, the first leg is skipped. Method 1 is 17 with a
+-- third leg, +S until Z rises."
+abbrev row17 : Row
+row17 = record { picks = NOT; a = -F A ∷ +S B ∷ []; b = []; c = +S B ∷ [] }
+
+abbrev row1 : Row
+row1 = record { picks = NOT; a = -F A ∷ +S B ∷ +S Z ∷ []; b = []; c = +S B ∷ +S Z ∷ [] }
+
+-- "27 to 30 are 23 to 26 with signs turned and NOT for POT"; "18 and 2 turn the signs and use POT". The limits ahead and behind follow the
+-- direction by themselves.
 abbrev pub turned : Leg → Leg
 turned l = record { forward = not (l .forward); fast = l .fast; switch = l .switch; edge = l .edge; moving = l .moving }
 
-abbrev turnedRow : Row → Row
-turnedRow r = record { a = map turned (r .a); b = map turned (r .b); c = map turned (r .c) }
+abbrev swapped : Switches → Switches
+swapped s = record { positive = s .negative; negative = s .positive; home = s .home; index = s .index }
 
--- one route, whatever HOM is, and no b
+abbrev turnedRow : Row → Row
+turnedRow r = record { picks = λ s. r .picks (swapped s); a = map turned (r .a); b = map turned (r .b); c = map turned (r .c) }
+
+-- one route, whatever the switches are, and no b
 abbrev alone : List Leg → Row
-alone ls = record { a = ls; b = []; c = ls }
+alone ls = record { picks = λ s. false; a = ls; b = []; c = ls }
 
 pub record Entry : Type 0 where
   pub method : ℕ
@@ -85,7 +113,11 @@ entry method row = record { method = method; row = row }
 -- "33 is −S Z, 34 is +S Z, 35 has no leg."
 abbrev pub table : List Entry
 table =
-    entry 23 row23
+    entry 1 row1
+    ∷ entry 2 (turnedRow row1)
+    ∷ entry 17 row17
+    ∷ entry 18 (turnedRow row17)
+    ∷ entry 23 row23
     ∷ entry 24 row24
     ∷ entry 25 row25
     ∷ entry 26 row26
@@ -107,7 +139,7 @@ unfoldable pub rowOf : ℕ → Option Row
 rowOf m = lookup m table
 
 -- the routes that a start allows: a or c, and beside an a the legs of b from its second on. b's first leg is a's first awaiting the limit
--- (`first-legs` of homing, computed for every method with a b), so nothing but a's first leg need say it.
+-- (`first-legs` of homing, computed for every method with a b), so b's first leg is in no plan.
 pub record Plan : Type 0 where
   pub main : List Leg
   pub turn : Option (List Leg)
@@ -116,14 +148,15 @@ abbrev pub later : List Leg → Option (List Leg)
 later [] = none
 later (l ∷ ls) = some ls
 
--- "picks a or c by HOM in that tick"
-abbrev pub planIn : Bool → Row → Plan
-planIn true r = record { main = r .c; turn = none }
-planIn false r = record { main = r .a; turn = later (r .b) }
+-- "picks a or c by HOM in that tick", by the limit in a row of 02's
+abbrev pub planBy : Bool → Row → Plan
+planBy true r = record { main = r .c; turn = none }
+planBy false r = record { main = r .a; turn = later (r .b) }
 
-abbrev pub planFrom : Bool → Option Row → Option Plan
-planFrom home none = none
-planFrom home (some r) = some (planIn home r)
+abbrev pub planIn : Switches → Option Row → Option Plan
+planIn s none = none
+planIn s (some r) = some (planBy (r .picks s) r)
 
-abbrev pub planOf : ℕ → Bool → Option Plan
-planOf method home = planFrom home (rowOf method)
+-- the plan of a start, by the switches of its tick
+abbrev pub planOf : ℕ → Switches → Option Plan
+planOf method s = planIn s (rowOf method)

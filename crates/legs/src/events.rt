@@ -1,10 +1,10 @@
 // When a leg's event counts in a tick, and when a limit does.
 use counts::Movement;
 ghost use mathlib.Core.Path.{_≡_};
-ghost use Prim.Native.Nat.{_<_};
+ghost use Prim.Native.Nat.{_%_, _<_};
 ghost use Rattle.counts.specs.Bit.{bitOf};
-ghost use Rattle.legs.specs.Digits.{legInDigit};
-ghost use Rattle.legs.specs.Events.{along, rises, limitRises, switchesIn, viewOf, foundEdge, foundCounts, foundLimitCounts};
+ghost use Rattle.legs.specs.Numbers.{aheadPlace, edgeIn, legFrom};
+ghost use Rattle.legs.specs.Events.{along, rises, edgeOf, switchesIn, viewOf, eventCounts, limitCounts};
 
 // The four switches (01: POT, NOT, HOM, Z).
 pub struct Switches {
@@ -18,10 +18,6 @@ pub struct Switches {
 const POSITIVE: u32 = 0;
 
 const NEGATIVE: u32 = 1;
-
-const HOME: u32 = 2;
-
-const INDEX: u32 = 3;
 
 // Whether POT, NOT and HOM are on.
 pub fn positive_on(switches: u32) -> bool
@@ -72,42 +68,39 @@ fn risen(before: u32, now: u32, place: u32) -> bool
 }
 
 // Whether the leg's switch has the leg's edge.
-fn edge_seen(leg: u32, seen: Seen) -> bool
-    ensures { λ r. ⌜ r ≡ foundEdge (legInDigit leg) (viewOf seen) ⌝ }
+fn edge_seen(leg: u32, before: u32, now: u32) -> bool
+    ensures { λ r. ⌜ r ≡ edgeOf (edgeIn leg) (bitOf before (leg % 4)) (bitOf now (leg % 4)) ⌝ }
 {
-    match leg % 4 {
-        1 => risen(seen.before, seen.now, HOME), // R
-        2 => risen(seen.now, seen.before, HOME), // D
-        3 => risen(seen.before, seen.now, INDEX), // Z
-        _ => false,
+    if leg / 4 % 2 == 1 {
+        risen(now, before, leg % 4)
+    } else {
+        risen(before, now, leg % 4)
     }
 }
 
-// Whether the limit in travel direction rises.
-fn limit_risen(forward: bool, seen: Seen) -> bool
-    ensures { λ r. ⌜ r ≡ limitRises forward (viewOf seen) ⌝ }
+// The place of the limit in travel direction.
+fn limit_place(forward: bool) -> u32
+    ensures value { λ r. ⌜ r ≡ aheadPlace forward ⌝ }
+    ensures small { λ r. ⌜ r < 2 ⌝ }
 {
-    if forward {
-        risen(seen.before, seen.now, POSITIVE)
-    } else {
-        risen(seen.before, seen.now, NEGATIVE)
-    }
+    if forward { POSITIVE } else { NEGATIVE }
 }
 
 // Whether the leg's event counts.
 pub fn event_counts(leg: u32, seen: Seen) -> bool
-    ensures { λ r. ⌜ r ≡ foundCounts (legInDigit leg) (viewOf seen) ⌝ }
+    ensures { λ r. ⌜ r ≡ eventCounts (legFrom leg) (viewOf seen) ⌝ }
 {
     let movement = seen.movement;
     let moved = along_leg(crate::is_forward(leg), movement);
-    let edge = edge_seen(leg, seen);
+    let edge = edge_seen(leg, seen.before, seen.now);
     !seen.halted & (moved & edge)
 }
 
-// Whether the limit in the leg's direction rises, with or without movement.
+// Whether the limit in the leg's direction rises, with or without movement, and is not the leg's own switch.
 pub fn limit_counts(leg: u32, seen: Seen) -> bool
-    ensures { λ r. ⌜ r ≡ foundLimitCounts (legInDigit leg) (viewOf seen) ⌝ }
+    ensures { λ r. ⌜ r ≡ limitCounts (legFrom leg) (viewOf seen) ⌝ }
 {
-    let ahead = limit_risen(crate::is_forward(leg), seen);
-    crate::is_leg(leg) & (!seen.halted & ahead)
+    let ahead = limit_place(crate::is_forward(leg));
+    let rises = risen(seen.before, seen.now, ahead);
+    !seen.halted & ((leg % 4 != ahead) & rises)
 }

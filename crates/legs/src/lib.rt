@@ -1,70 +1,114 @@
-// The legs of every method's routes (01: "Homing routes"), and when a leg's event counts.
+// The legs of every method's routes (01: "Homing routes"; 02, (i)), and when a leg's event counts.
 //
-// A leg is a number: 1 R, 2 D, 3 Z, and 4 more if forward, 8 more if fast. One with none of R, D and Z, as 0, is no leg.
+// A leg is a byte: the place of its switch (0 POT, 1 NOT, 2 HOM, 3 Z), 4 more if it awaits the drop, 8 more if it goes forward, 16 more if it is
+// fast, 32 more if a limit turns it to route b. A route is a number: a byte for each leg, the first lowest.
 pub mod events;
 
+ghost use Prim.Native.Nat.{_<_, _^_};
 ghost use mathlib.Core.Path.{_≡_};
-ghost use Rattle.legs.specs.Found.{isLeg};
-ghost use Rattle.legs.specs.Places.{legAt, homePlace};
-ghost use Rattle.legs.specs.Digits.{legInDigit, forwardIn, fastIn, rowDigits};
+ghost use mathlib.Core.Bool.{_||_};
+ghost use Rattle.counts.specs.Between.{between};
+ghost use Rattle.legs.specs.Events.{switchesIn};
+ghost use Rattle.legs.specs.Numbers.{mainRoute, turnRoute, skipRoute, skips, startRoute, forwardIn, fastIn, turnsIn};
 
-// The places of a row: from 0 on route a, from TURN on route b without its first leg. Each ends in an empty place.
-pub const TURN: u32 = 4;
-
-// Where route c stands: it is a without its first leg, b without its first two, or a itself.
-pub fn home_place(method: u32) -> u32
-    ensures { λ r. ⌜ r ≡ homePlace method ⌝ }
+// Whether a start picks route c: by HOM, in 17 and 1 by NOT, in 18 and 2 by POT, and never in 33 to 35.
+fn skips_leg(method: u32, switches: u32) -> bool
+    ensures { λ r. ⌜ r ≡ skips method (switchesIn switches) ⌝ }
 {
     match method {
-        23..=30 => { if (method - 23) % 4 < 2 { 1 } else { 5 } }
+        1 => events::negative_on(switches),
+        2 => events::positive_on(switches),
+        17 => events::negative_on(switches),
+        18 => events::positive_on(switches),
+        23..=30 => events::home_on(switches),
+        _ => false,
+    }
+}
+
+// Route a. R, D and Z are 01's events, A is the rise of the limit ahead, B the drop of the limit behind. 35 and a number that is no method have
+// no leg.
+fn main_route(method: u32) -> u32
+    ensures { λ r. ⌜ r ≡ mainRoute method ⌝ }
+{
+    match method {
+        1 => 0x0b_0d_11, // -F A, +S B, +S Z
+        2 => 0x03_04_18, // 1 turned, with POT for NOT
+        17 => 0x0d_11, // -F A, +S B
+        18 => 0x04_18,
+        23 => 0x06_3a, // +F R, -S D
+        24 => 0x0a_06_3a, // +F R, -S D, +S R
+        25 => 0x02_3e, // +F D, -S R
+        26 => 0x0e_06_3a, // +F R, -S D, +S D
+        27 => 0x0e_32, // 23 turned
+        28 => 0x02_0e_32,
+        29 => 0x0a_36,
+        30 => 0x06_0e_32,
+        33 => 0x03, // -S Z
+        34 => 0x0b, // +S Z
         _ => 0,
     }
 }
 
-// A method's row, a hexadecimal digit for each place from the highest on; 0 is an empty place. 35 and a number that is no method have no leg.
-fn row_of(method: u32) -> u32
-    ensures { λ r. ⌜ r ≡ rowDigits method ⌝ }
+// Route b without its first leg: route a of another method, that of 30 for 23, of 29 for 24, and so on; but no limit turns it again.
+pub fn turn_route(method: u32) -> u32
+    ensures value { λ r. ⌜ r ≡ turnRoute method ⌝ }
+    ensures small { λ r. ⌜ r < 2 ^ 24 ⌝ }
 {
     match method {
-        23 => 0xd200_9620, // +F R, -S D; -F R, +S D, -S D
-        24 => 0xd250_a500, // +F R, -S D, +S R; -F D, +S R
-        25 => 0xe100_9610, // +F D, -S R; -F R, +S D, -S R
-        26 => 0xd260_9600, // +F R, -S D, +S D; -F R, +S D
-        27 => 0x9600_d260, // 23 with signs turned
-        28 => 0x9610_e100,
-        29 => 0xa500_d250,
-        30 => 0x9620_d200,
-        33 => 0x3000_0000, // -S Z
-        34 => 0x7000_0000, // +S Z
+        23..=30 => main_route(53 - method) - 32,
         _ => 0,
     }
 }
 
-// A method's leg at a place, 0 where none stands.
-pub fn leg_at(method: u32, place: u32) -> u32
-    ensures { λ r. ⌜ legInDigit r ≡ legAt method place ⌝ }
+// Whether route c is b without its first two legs.
+fn ends_b(method: u32) -> bool
+    ensures { λ r. ⌜ r ≡ between 25 26 method || between 29 30 method ⌝ }
 {
-    if place < 8 {
-        (row_of(method) >> (28 - 4 * place)) % 16
+    match method {
+        25..=26 | 29..=30 => true,
+        _ => false,
+    }
+}
+
+// Route c: the end of b, a without its first leg, or a itself.
+fn skip_route(method: u32, main: u32) -> u32
+    requires { ⌜ main ≡ mainRoute method ⌝ }
+    ensures { λ r. ⌜ r ≡ skipRoute method ⌝ }
+{
+    if ends_b(method) {
+        return turn_route(method) / 256;
+    }
+    if method < 33 { main / 256 } else { main }
+}
+
+// The route of a start, by the switches of its tick.
+pub fn start_route(method: u32, switches: u32) -> u32
+    ensures value { λ r. ⌜ r ≡ startRoute method (switchesIn switches) ⌝ }
+    ensures small { λ r. ⌜ r < 2 ^ 24 ⌝ }
+{
+    let main = main_route(method);
+    if skips_leg(method, switches) {
+        skip_route(method, main)
     } else {
-        0
+        main
     }
 }
 
-pub fn is_leg(leg: u32) -> bool
-    ensures { λ r. ⌜ r ≡ isLeg (legInDigit leg) ⌝ }
-{
-    leg % 4 != 0
-}
-
+// Of a route's first leg: its direction, its speed, and whether a limit turns it.
 pub fn is_forward(leg: u32) -> bool
     ensures { λ r. ⌜ r ≡ forwardIn leg ⌝ }
 {
-    leg / 4 % 2 == 1
+    leg / 8 % 2 == 1
 }
 
 pub fn is_fast(leg: u32) -> bool
     ensures { λ r. ⌜ r ≡ fastIn leg ⌝ }
 {
-    leg / 8 % 2 == 1
+    leg / 16 % 2 == 1
+}
+
+pub fn turns(leg: u32) -> bool
+    ensures { λ r. ⌜ r ≡ turnsIn leg ⌝ }
+{
+    leg / 32 % 2 == 1
 }

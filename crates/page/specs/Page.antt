@@ -5,7 +5,8 @@ use mathlib.Core.List.{List, _++_}
 use mathlib.Core.Path.{_≡_}
 use lib.ListN.{length, take, drop}
 
--- page′ is the page after `text` was printed on it at a place; `end` is the place after the text, and from there on the page is as it was.
+-- page′ is the page after `text` was printed on it at a place; `end` is the place after the text, or the page's end where it is cut
+-- off, and from there on the page is as it was.
 -- Beyond the page there is no place: nothing fits there, and the page stays as it is.
 pub record Printed (page : List ℕ) (at : ℕ) (text : List ℕ) (page′ : List ℕ) (end : ℕ) : Type 0 where
   pub same-length : length page′ ≡ length page

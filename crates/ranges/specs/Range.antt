@@ -7,9 +7,9 @@ use lib.IntN.{ℤ, pos, negℤ}
 use lib.Signed.{leZ, ltZ}
 use Rattle.counts.specs.Between.{between}
 
--- "method 23 to 30, 33, 34 or 35"
+-- "method 23 to 30, 33, 34 or 35"; 02, (i): "17 and 18, and 1 and 2", and "Kind 1 admits them"
 unfoldable pub methodOk : ℕ → Bool
-methodOk method = between 23 30 method || between 33 35 method
+methodOk method = between 1 2 method || between 17 18 method || between 23 30 method || between 33 35 method
 
 -- "2 fast and 3 slow speed, 1 to 2^28−1"
 abbrev pub speedOk : ℕ → Bool

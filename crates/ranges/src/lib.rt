@@ -13,7 +13,7 @@ pub fn method_ok(method: u32) -> bool
     ensures { λ r. ⌜ r ≡ methodOk method ⌝ }
 {
     match method {
-        23..=30 | 33..=35 => true,
+        1..=2 | 17..=18 | 23..=30 | 33..=35 => true,
         _ => false,
     }
 }

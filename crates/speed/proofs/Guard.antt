@@ -3,17 +3,17 @@
 use Prim.Native.Nat.{_-_, _^_, min}
 use mathlib.Core.Path.{_≡_, refl}
 use mathlib.Core.Bool.{Bool, true, false, cond}
+use mathlib.Core.Option.{Option, none, some}
 use native.Mathlib.Omega.{arith}
 use borrow.Author.Tests.{leb-true}
 use lib.Dec.{leb}
 use Rattle.settings.specs.declared.Settings.{Settings}
 use Rattle.settings.specs.Ranges.{inRange}
 use Rattle.settings.proofs.Within.{within, both}
-use Rattle.legs.specs.Found.{Found}
-use Rattle.legs.specs.Found as found
+use Rattle.legs.specs.Legs.{Leg}
 use Rattle.homing.specs.Phase.{Phase}
 use Rattle.homing.specs.Moving.{movingLeg}
-use Rattle.speed.specs.Speed.{signedOf, foundSpeed, speedOf, plainSigned, plainFound, plainSpeed}
+use Rattle.speed.specs.Speed.{signedOf, movingSpeed, speedOf, plainSigned, plainMoving, plainSpeed}
 
 module _ (s : Settings) (e : inRange s ≡ true) where
   pub fast-kept : min (s .fast) (2 ^ 28 - 1) ≡ s .fast
@@ -25,14 +25,14 @@ module _ (s : Settings) (e : inRange s ≡ true) where
       omega (arith, leb-true (s .slow) (2 ^ 28 - 1) (both (leb 1 (s .slow)) (leb (s .slow) (2 ^ 28 - 1)) (within s e .slow) .1))
 
   -- the speed of a leg, and so of a tick
-  leg-plain : (f : Found) → foundSpeed s f ≡ plainFound s f
+  leg-plain : (o : Option Leg) → movingSpeed s o ≡ plainMoving s o
   unfolding signedOf
-  leg-plain (found.Leg leg) = go (leg .fast)
+  leg-plain (some leg) = go (leg .fast)
     where
       go : (fast : Bool) → signedOf (leg .forward) (cond fast (s .fast) (s .slow)) ≡ plainSigned (leg .forward) (cond fast (s .fast) (s .slow))
       go true = rw fast-kept
       go false = rw slow-kept
-  leg-plain found.Nothing = refl
+  leg-plain none = refl
 
   pub speed-plain : (phase : Phase) (halted : Bool) → speedOf s phase halted ≡ plainSpeed s phase halted
-  speed-plain phase halted = leg-plain (movingLeg (s .method) phase halted)
+  speed-plain phase halted = leg-plain (movingLeg phase halted)

@@ -2,13 +2,12 @@
 -- Assumes nothing.
 use Prim.Native.Nat.{ℕ, _-_, _^_, min}
 use mathlib.Core.Bool.{Bool, cond}
+use mathlib.Core.Option.{Option, none, some}
 use lib.IntN.{ℤ, pos, negℤ}
 use Rattle.settings.specs.declared.Settings.{Settings}
 use Rattle.homing.specs.Phase.{Phase}
 use Rattle.homing.specs.Moving.{movingLeg}
 use Rattle.legs.specs.Legs.{Leg}
-use Rattle.legs.specs.Found.{Found}
-use Rattle.legs.specs.Found as found
 
 -- a magnitude with the sign of a direction. The least of it and 2 ^ 28 − 1 is a guard: in range it changes nothing (`proofs/Guard.antt`)
 unfoldable pub signedOf : Bool → ℕ → ℤ
@@ -18,21 +17,21 @@ signedOf forward speed = cond forward (pos (min speed (2 ^ 28 - 1))) (negℤ (po
 abbrev pub legSpeed : Settings → Leg → ℤ
 legSpeed s leg = signedOf (leg .forward) (cond (leg .fast) (s .fast) (s .slow))
 
-abbrev pub foundSpeed : Settings → Found → ℤ
-foundSpeed s (found.Leg leg) = legSpeed s leg
-foundSpeed s found.Nothing = pos 0
+abbrev pub movingSpeed : Settings → Option Leg → ℤ
+movingSpeed s none = pos 0
+movingSpeed s (some leg) = legSpeed s leg
 
 -- the speed of the leg in which the axis moves after the tick
 abbrev pub speedOf : Settings → Phase → Bool → ℤ
-speedOf s phase halted = foundSpeed s (movingLeg (s .method) phase halted)
+speedOf s phase halted = movingSpeed s (movingLeg phase halted)
 
 -- the same with no guard: a leg's speed is fast or slow, with the leg's sign
 abbrev pub plainSigned : Bool → ℕ → ℤ
 plainSigned forward speed = cond forward (pos speed) (negℤ (pos speed))
 
-abbrev pub plainFound : Settings → Found → ℤ
-plainFound s (found.Leg leg) = plainSigned (leg .forward) (cond (leg .fast) (s .fast) (s .slow))
-plainFound s found.Nothing = pos 0
+abbrev pub plainMoving : Settings → Option Leg → ℤ
+plainMoving s none = pos 0
+plainMoving s (some leg) = plainSigned (leg .forward) (cond (leg .fast) (s .fast) (s .slow))
 
 abbrev pub plainSpeed : Settings → Phase → Bool → ℤ
-plainSpeed s phase halted = plainFound s (movingLeg (s .method) phase halted)
+plainSpeed s phase halted = plainMoving s (movingLeg phase halted)

@@ -1,10 +1,9 @@
 // The speed that a tick commands: that of the homing leg in which the axis moves.
 use settings::Settings;
 ghost use mathlib.Core.Path.{_≡_};
-ghost use mathlib.Core.Bool.{cond};
 ghost use Prim.Native.Nat.{_-_, _^_, min};
-ghost use Rattle.legs.specs.Digits.{legInDigit, forwardIn, fastIn};
-ghost use Rattle.speed.specs.Speed.{signedOf, foundSpeed};
+ghost use Rattle.legs.specs.Numbers.{legFrom};
+ghost use Rattle.speed.specs.Speed.{signedOf, legSpeed};
 
 // A speed is at most 2^28 - 1.
 fn capped(speed: u32) -> u32
@@ -21,8 +20,9 @@ fn signed(forward: bool, speed: u32) -> i32
     if forward { magnitude } else { -magnitude }
 }
 
-fn leg_speed(s: Settings, leg: u32) -> i32
-    ensures { λ r. ⌜ r ≡ signedOf (forwardIn leg) (cond (fastIn leg) (s .fast) (s .slow)) ⌝ }
+// The speed of a leg, the first of a route.
+pub fn speed(s: Settings, leg: u32) -> i32
+    ensures { λ r. ⌜ r ≡ legSpeed s (legFrom leg) ⌝ }
 {
     let forward = legs::is_forward(leg);
     let fast = legs::is_fast(leg);
@@ -30,16 +30,5 @@ fn leg_speed(s: Settings, leg: u32) -> i32
         signed(forward, s.fast)
     } else {
         signed(forward, s.slow)
-    }
-}
-
-// The speed of a leg; where there is none, 0.
-pub fn speed(s: Settings, leg: u32) -> i32
-    ensures { λ r. ⌜ r ≡ foundSpeed s (legInDigit leg) ⌝ }
-{
-    if legs::is_leg(leg) {
-        leg_speed(s, leg)
-    } else {
-        0
     }
 }

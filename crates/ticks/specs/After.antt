@@ -12,7 +12,7 @@ use Rattle.commands.specs.declared.Command.{Command}
 use Rattle.commands.specs.declared.Command.the-variants.{Hybrid, Homing, Position, Torque, Rest}
 use Rattle.legs.specs.Events.{View}
 use Rattle.homing.specs.Phase.{Phase, homedIn}
-use Rattle.homing.specs.Places.{startOf, stepOf}
+use Rattle.homing.specs.Steps.{startOf, stepOf}
 use Rattle.position.specs.declared.Followed.{Followed}
 use Rattle.position.specs.declared.Followed.the-variants.{Nothing}
 use Rattle.position.specs.Position.{followedOf}
@@ -27,9 +27,9 @@ newMode a t = modeAfter (a .mode) (a .state) t
 abbrev pub newState : Settings → Motion → Tick → State
 newState s a t = stateAfter s (a .state) (a .control) t
 
--- "The start tick … picks a or c by HOM in that tick and counts no event"; a later tick is a step
+-- "The start tick … picks a or c by HOM in that tick and counts no event", in a method of 02's by a limit; a later tick is a step
 abbrev pub phaseAfter : Phase → ℕ → Bool → View → Phase
-phaseAfter phase method starting v = cond starting (startOf method (v .now .home)) (stepOf phase method v)
+phaseAfter phase method starting v = cond starting (startOf method (v .now)) (stepOf phase method v)
 
 -- the same, of a motion; on: homing is matched and the new state is Operation enabled
 abbrev pub phaseBy : Settings → Motion → Tick → Bool → Phase

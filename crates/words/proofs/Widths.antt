@@ -35,8 +35,12 @@ either-below false b f g e = g e
 
 method-below : (m : ℕ) → methodOk m ≡ true → m < 2 ^ 28
 unfolding methodOk
-method-below m e =
-    either-below (between 23 30 m) (between 33 35 m) (λ h. omega (arith, top 23 30 m h)) (λ h. omega (arith, top 33 35 m h)) e
+method-below m =
+    either-below (between 1 2 m || between 17 18 m || between 23 30 m) (between 33 35 m)
+    (either-below (between 1 2 m || between 17 18 m) (between 23 30 m)
+    (either-below (between 1 2 m) (between 17 18 m) (λ h. omega (arith, top 1 2 m h)) (λ h. omega (arith, top 17 18 m h)))
+    (λ h. omega (arith, top 23 30 m h)))
+    (λ h. omega (arith, top 33 35 m h))
 
 option-below : (x : ℕ) → optionOk x ≡ true → x < 2 ^ 28
 option-below x e = either-below (eqb x 2) (eqb x 6) (λ h. omega (arith, eqb-true x 2 h)) (λ h. omega (arith, eqb-true x 6 h)) e

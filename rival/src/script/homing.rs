@@ -5,42 +5,20 @@ use std::io::Write;
 use super::sheets::sheet_s;
 use super::Script;
 use crate::drive_state::DriveState::*;
-use crate::homing::{routes, Event, Leg, Way};
+use crate::homing::{all_routes, decider, routes, Event, Leg, Way};
+use crate::tick::Switch;
 use crate::writer::Settings;
 
-/// Every route there is.
-pub(super) const ROUTES: [(u32, Way); 27] = [
-    (23, Way::A),
-    (23, Way::B),
-    (23, Way::C),
-    (24, Way::A),
-    (24, Way::B),
-    (24, Way::C),
-    (25, Way::A),
-    (25, Way::B),
-    (25, Way::C),
-    (26, Way::A),
-    (26, Way::B),
-    (26, Way::C),
-    (27, Way::A),
-    (27, Way::B),
-    (27, Way::C),
-    (28, Way::A),
-    (28, Way::B),
-    (28, Way::C),
-    (29, Way::A),
-    (29, Way::B),
-    (29, Way::C),
-    (30, Way::A),
-    (30, Way::B),
-    (30, Way::C),
-    (33, Way::Sole),
-    (34, Way::Sole),
-    (35, Way::Sole),
-];
-
-/// Where a limit may end homing: a leg that is not a's first.
-pub(super) const FAILURES: [(u32, Way, usize); 12] = [
+/// Where a limit may end homing: a leg that is not a's first, nor one that awaits the limit.
+pub(super) const FAILURES: [(u32, Way, usize); 20] = [
+    (1, Way::OffLimit, 1),
+    (1, Way::OffLimit, 2),
+    (1, Way::OnLimit, 0),
+    (2, Way::OffLimit, 2),
+    (2, Way::OnLimit, 1),
+    (17, Way::OffLimit, 1),
+    (17, Way::OnLimit, 0),
+    (18, Way::OffLimit, 1),
     (23, Way::A, 1),
     (24, Way::A, 2),
     (23, Way::B, 3),
@@ -80,8 +58,13 @@ pub(super) const INTERRUPTIONS: [Interruption; 10] = [
     Interruption::Halt,
 ];
 
+/// Whether the method's decider is on in the start tick.
+fn starts_on(way: Way) -> bool {
+    matches!(way, Way::C | Way::OnLimit)
+}
+
 fn legs(method: u32, way: Way) -> Vec<Leg> {
-    let allowed = routes(method, way == Way::C);
+    let allowed = routes(method, starts_on(way));
     allowed.iter().find(|route| route.way == way).map(|route| route.legs().collect()).unwrap_or_default()
 }
 
@@ -98,21 +81,17 @@ impl<W: Write> Script<W> {
         self.now.position = self.now.position.wrapping_add(size);
     }
 
-    fn travel_limit(&mut self, leg: Leg) -> &mut bool {
-        let switches = &mut self.now.switches;
-        if leg.0 == 1 {
-            &mut switches.pot
-        } else {
-            &mut switches.not
-        }
+    fn turn(&mut self, switch: Switch) {
+        let on = self.now.switches.on(switch);
+        self.now.switches.turn(switch, !on);
     }
 
     /// A sheet with this method, enabled, homing matched, then bit 4 rises.
-    fn start(&mut self, method: u32, hom: bool) {
-        self.start_under(&Settings { method: i64::from(method), ..sheet_s() }, hom);
+    fn start(&mut self, method: u32, way: Way) {
+        self.start_under(&Settings { method: i64::from(method), ..sheet_s() }, way);
     }
 
-    fn start_under(&mut self, settings: &Settings, hom: bool) {
+    fn start_under(&mut self, settings: &Settings, way: Way) {
         let mut settings = settings.clone();
         if self.random.once_in(2) {
             let method = settings.method;
@@ -123,14 +102,19 @@ impl<W: Write> Script<W> {
         self.reach(OperationEnabled);
         self.now.position = self.random.pick(&[100, 0, -5000, i32::MAX - 3, i32::MIN + 3, i32::MAX, i32::MIN]);
         self.now.switches = Default::default();
-        self.now.switches.hom = if self.random.once_in(3) { !hom } else { hom };
+        let (decider, on) = (decider(settings.method as u32), starts_on(way));
+        let level = on != self.random.once_in(3);
+        self.now.switches.turn(decider.unwrap_or(Switch::Hom), level);
         self.tick_with(0x000F, "homing 100", true);
-        // Only HOM in the start tick itself matters; what rises or drops there is no event.
-        self.now.switches.hom = hom;
+        // Only the decider in the start tick itself matters; what rises or drops there is no event.
         if self.random.once_in(3) {
-            self.now.switches.pot = self.random.once_in(2);
-            self.now.switches.not = self.random.once_in(2);
-            self.now.switches.z = self.random.once_in(2);
+            for switch in [Switch::Pot, Switch::Not, Switch::Hom, Switch::Z] {
+                let level = self.random.once_in(2);
+                self.now.switches.turn(switch, level);
+            }
+        }
+        if let Some(decider) = decider {
+            self.now.switches.turn(decider, on);
         }
         let sign = self.random.between(-1, 1) as i32;
         self.move_by(sign);
@@ -143,7 +127,7 @@ impl<W: Write> Script<W> {
     /// A tick that must not count in this leg.
     fn noise(&mut self, leg: Leg) {
         self.now.still = self.random.once_in(4);
-        match self.random.between(0, 6) {
+        match self.random.between(0, 7) {
             0 => {
                 let sign = self.random.between(-1, 1) as i32;
                 self.move_by(sign);
@@ -153,32 +137,38 @@ impl<W: Write> Script<W> {
                 // The event, but coasting the other way or standing.
                 let sign = self.random.pick(&[0, -leg.0]);
                 self.move_by(sign);
-                self.now.switches.hom = !self.now.switches.hom;
-                self.now.switches.z = !self.now.switches.z;
+                self.turn(Switch::Hom);
+                self.turn(Switch::Z);
+                if let Event::Rises(limit @ (Switch::Pot | Switch::Not)) = leg.2 {
+                    self.turn(limit);
+                }
                 self.tick();
             }
-            2 => {
-                // The event, but halted.
-                self.ready_for(leg);
-                self.move_by(leg.0);
-                self.flip(leg);
-                self.halted_tick();
-            }
+            2 => self.miss_halted(leg),
             3 => {
-                // The limit, but halted; its drop counts in no leg.
+                // The limit, but halted; a drop without movement counts in no leg.
                 self.now.switches.pot = false;
                 self.now.switches.not = false;
                 self.tick();
-                *self.travel_limit(leg) = true;
+                self.now.switches.turn(leg.limit(), true);
                 self.halted_tick();
             }
             4 => {
-                let opposite = self.travel_limit(Leg(-leg.0, leg.1, leg.2));
-                *opposite = !*opposite;
+                // The limit behind, without movement or coasting: it may be the one whose drop is awaited.
+                let sign = self.random.pick(&[0, -leg.0]);
+                self.move_by(sign);
+                self.turn(leg.behind());
                 self.tick();
             }
             5 => {
-                *self.travel_limit(leg) = false;
+                self.now.switches.turn(leg.limit(), false);
+                self.tick();
+            }
+            6 => {
+                // Movement along the leg, and a switch that it does not await: HOM plays no part where Z or a limit is awaited.
+                self.move_by(leg.0);
+                let awaits_hom = leg.awaits().0 == Switch::Hom || leg.2 == Event::LimitRises;
+                self.turn(if awaits_hom { Switch::Z } else { Switch::Hom });
                 self.tick();
             }
             _ => self.tick(),
@@ -193,14 +183,9 @@ impl<W: Write> Script<W> {
 
     /// Turns the leg's switch so that its event can come. The turn itself is no event of this leg.
     fn ready_for(&mut self, leg: Leg) {
-        let before = self.now.switches;
-        match leg.2 {
-            Event::HomRises => self.now.switches.hom = false,
-            Event::HomDrops => self.now.switches.hom = true,
-            Event::ZRises => self.now.switches.z = false,
-            Event::LimitRises => *self.travel_limit(leg) = false,
-        }
-        if self.now.switches != before {
+        let (switch, level) = leg.awaits();
+        if self.now.switches.on(switch) == level {
+            self.turn(switch);
             let sign = self.random.between(-1, 1) as i32;
             self.move_by(sign);
             self.tick();
@@ -208,15 +193,19 @@ impl<W: Write> Script<W> {
     }
 
     fn flip(&mut self, leg: Leg) {
-        match leg.2 {
-            Event::HomRises => self.now.switches.hom = true,
-            Event::HomDrops => self.now.switches.hom = false,
-            Event::ZRises => self.now.switches.z = true,
-            Event::LimitRises => *self.travel_limit(leg) = true,
-        }
+        let (switch, level) = leg.awaits();
+        self.now.switches.turn(switch, level);
     }
 
-    /// Noise, then the leg's event; at times the limit rises in the same tick, which nobody looks at.
+    /// The event, but halted.
+    fn miss_halted(&mut self, leg: Leg) {
+        self.ready_for(leg);
+        self.move_by(leg.0);
+        self.flip(leg);
+        self.halted_tick();
+    }
+
+    /// Noise, then the leg's event; at times the limit or Z rises in the same tick, which nobody looks at.
     fn leg(&mut self, leg: Leg) {
         for _ in 0..self.random.between(0, 2) {
             self.noise(leg);
@@ -226,14 +215,14 @@ impl<W: Write> Script<W> {
         self.move_by(sign);
         self.flip(leg);
         if self.random.once_in(5) {
-            *self.travel_limit(leg) = true;
+            self.now.switches.turn(leg.limit(), true);
         }
+        self.now.switches.z |= self.random.once_in(4);
         self.tick();
     }
 
-    pub(super) fn home(&mut self, (method, way): (u32, Way)) {
-        let hom = way == Way::C || way == Way::Sole && self.random.once_in(2);
-        self.start(method, hom);
+    pub(super) fn home(&mut self, method: u32, way: Way) {
+        self.start(method, way);
         for leg in legs(method, way) {
             self.leg(leg);
         }
@@ -249,16 +238,49 @@ impl<W: Write> Script<W> {
         }
     }
 
+    /// 17, 18, 1 and 2: started as their limit rises, then as it drops, for the start tick's level alone is looked at. Then each
+    /// leg's switch turns as it must not count: without movement, coasting, halted; HOM turns on the way along. Only then comes
+    /// the event, and with it a rise of Z, which is used up.
+    pub(super) fn miss(&mut self, method: u32) {
+        self.start(method, Way::OffLimit);
+        let legs = legs(method, Way::OffLimit);
+        for on in [true, false] {
+            self.now.switches.turn(legs[0].limit(), !on);
+            self.tick_with(0x000F, "homing 100", true);
+            self.now.switches.turn(legs[0].limit(), on);
+            self.move_by(legs[0].0);
+            self.tick_with(0x001F, "homing 100", false);
+        }
+        for leg in legs {
+            for sign in [0, -leg.0] {
+                self.ready_for(leg);
+                self.move_by(sign);
+                self.flip(leg);
+                self.tick();
+            }
+            self.miss_halted(leg);
+            self.turn(Switch::Hom);
+            self.now.switches.z = false;
+            self.move_by(leg.0);
+            self.tick();
+            self.ready_for(leg);
+            self.move_by(leg.0);
+            self.flip(leg);
+            self.now.switches.z = true;
+            self.tick();
+        }
+    }
+
     /// A limit met in travel direction where the route has no use for it.
     pub(super) fn fail(&mut self, (method, way, place): (u32, Way, usize)) {
-        self.start(method, way == Way::C);
+        self.start(method, way);
         let legs = legs(method, way);
         for &leg in &legs[..place] {
             self.leg(leg);
         }
-        *self.travel_limit(legs[place]) = false;
+        self.now.switches.turn(legs[place].limit(), false);
         self.tick();
-        *self.travel_limit(legs[place]) = true;
+        self.now.switches.turn(legs[place].limit(), true);
         if self.random.once_in(2) {
             self.move_by(legs[place].0);
         }
@@ -275,9 +297,10 @@ impl<W: Write> Script<W> {
     /// Homing cut off in the midst; the rest of the legs is played in vain, for bit 4 does not rise again. A halt only
     /// makes it wait.
     pub(super) fn interrupt(&mut self, interruption: Interruption) {
-        let (method, way) = self.random.pick(&ROUTES[..26]);
+        let routes = all_routes();
+        let (method, way) = self.random.pick(&routes[..routes.len() - 1]); // the last is that of 35, which has no leg
         let legs = legs(method, way);
-        self.start_under(&Settings { method: i64::from(method), quick_stop_option: 6, ..sheet_s() }, way == Way::C);
+        self.start_under(&Settings { method: i64::from(method), quick_stop_option: 6, ..sheet_s() }, way);
         let cut = self.random.between(0, legs.len() as i64 - 1) as usize;
         for &leg in &legs[..cut] {
             self.leg(leg);
@@ -312,7 +335,7 @@ impl<W: Write> Script<W> {
     /// Without movement no Z counts; a movement of 2^31 reads as one in minus direction, whichever way it went.
     pub(super) fn half_turn(&mut self) {
         for method in [34, 33] {
-            self.start(method, false);
+            self.start(method, Way::Sole);
             for z in [false, true, false] {
                 self.now.switches.z = z;
                 self.tick();

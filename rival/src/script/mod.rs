@@ -10,6 +10,7 @@ use std::io::{self, Write};
 
 use crate::axis::Axis;
 use crate::drive_state::DriveState;
+use crate::homing::{all_routes, Way, ON_LIMITS};
 use crate::lines::{self, LONGEST};
 use crate::program::Program;
 use crate::random::Random;
@@ -63,7 +64,8 @@ pub struct Script<W: Write> {
 /// The scenes of a round.
 #[derive(Clone, Copy)]
 enum Scene {
-    Home(usize),
+    Home(u32, Way),
+    Miss(u32),
     Fail(usize),
     Interrupt(homing::Interruption),
     NoStart,
@@ -109,7 +111,8 @@ fn scenes() -> Vec<Scene> {
         Scene::Wander,
         Scene::Wander,
     ];
-    scenes.extend((0..homing::ROUTES.len()).map(Scene::Home));
+    scenes.extend(all_routes().into_iter().map(|(method, way)| Scene::Home(method, way)));
+    scenes.extend(ON_LIMITS.map(Scene::Miss));
     scenes.extend((0..homing::FAILURES.len()).map(Scene::Fail));
     scenes.extend(homing::INTERRUPTIONS.map(Scene::Interrupt));
     scenes
@@ -163,7 +166,8 @@ impl<W: Write> Script<W> {
             self.fresh();
         }
         match scene {
-            Scene::Home(route) => self.home(homing::ROUTES[route]),
+            Scene::Home(method, way) => self.home(method, way),
+            Scene::Miss(method) => self.miss(method),
             Scene::Fail(failure) => self.fail(homing::FAILURES[failure]),
             Scene::Interrupt(interruption) => self.interrupt(interruption),
             Scene::NoStart => self.start_in_vain(),

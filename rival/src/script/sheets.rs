@@ -4,7 +4,7 @@ use std::io::Write;
 
 use super::Script;
 use crate::drive_state::DriveState::*;
-use crate::homing::Way;
+use crate::homing::{Way, METHODS};
 use crate::random::Random;
 use crate::sheet::{self, KINDS, LENGTH};
 use crate::writer::{self, Settings};
@@ -41,7 +41,7 @@ struct Edge {
 const PLACE: i64 = 1 << 27;
 
 const EDGES: [Edge; 15] = [
-    Edge { field: |s| &mut s.method, least: 23, most: 35 },
+    Edge { field: |s| &mut s.method, least: 1, most: 35 },
     Edge { field: |s| &mut s.fast, least: 1, most: (1 << 28) - 1 },
     Edge { field: |s| &mut s.slow, least: 1, most: (1 << 28) - 1 },
     Edge { field: |s| &mut s.offset, least: -PLACE, most: PLACE - 1 },
@@ -57,6 +57,9 @@ const EDGES: [Edge; 15] = [
     Edge { field: |s| &mut s.quick_stop_option, least: 2, most: 6 },
     Edge { field: |s| &mut s.rated_torque, least: 1, most: 1 << 24 },
 ];
+
+/// Where the methods that a sheet may hold have gaps, the numbers on either side of the gap's edges.
+const INNER_EDGES: [u32; 12] = [2, 3, 16, 17, 18, 19, 22, 23, 30, 31, 32, 33];
 
 fn words_of(settings: &Settings) -> [u32; LENGTH] {
     settings.words().expect("the scene's settings are in range")
@@ -97,7 +100,7 @@ impl<W: Write> Script<W> {
             let width = random.pick(&[50, 1000, 1000, 100_000, (1 << 27) - 1]);
             let fast = random.between(1, (1 << 28) - 1);
             let settings = Settings {
-                method: random.pick(&[23, 24, 25, 26, 27, 28, 29, 30, 33, 34, 35]),
+                method: i64::from(random.pick(&METHODS)),
                 fast: random.pick(&[20000, 1, (1 << 28) - 1, fast]),
                 slow: random.pick(&[1000, 1, (1 << 28) - 1, 7]),
                 offset: random.between(-width, width),
@@ -183,8 +186,8 @@ impl<W: Write> Script<W> {
         for (offset, numerator, denominator, lower, upper) in REACHES {
             self.writer(17, &Settings { offset, numerator, denominator, lower_stop: lower, upper_stop: upper, ..sheet_s() });
         }
-        for method in [31, 32, 30, 33] {
-            self.writer(15, &Settings { method, ..sheet_s() });
+        for method in INNER_EDGES {
+            self.writer(15, &Settings { method: i64::from(method), ..sheet_s() });
         }
         for quick_stop_option in [3, 5, 0] {
             self.writer(15, &Settings { quick_stop_option, ..sheet_s() });
@@ -208,11 +211,8 @@ impl<W: Write> Script<W> {
         for least in [true, false] {
             self.words(&words_of(&at_edge(least)));
         }
-        for (kind, data) in [
-            (sheet::METHOD, 22),
-            (sheet::METHOD, 31),
-            (sheet::METHOD, 32),
-            (sheet::METHOD, 36),
+        let methods = [&[0, 36], &INNER_EDGES[..]].concat().into_iter().map(|method| (sheet::METHOD, method));
+        for (kind, data) in methods.chain([
             (sheet::FAST, 0),
             (sheet::SLOW, 0),
             (sheet::NUMERATOR, 0),
@@ -234,7 +234,7 @@ impl<W: Write> Script<W> {
             (sheet::START, 2),
             (sheet::LOWER_STOP, (1 << 27) - 1),
             (sheet::UPPER_STOP, 1 << 27),
-        ] {
+        ]) {
             let place = kind as usize;
             let right = words_of(&sheet_s());
             self.words(&right[..place]);
@@ -336,7 +336,7 @@ impl<W: Write> Script<W> {
                     self.tick_with(0x000F, "torque 5", true); // no sheet yet
                     self.take_over_any(); // Not ready until the first tick after it
                 }
-                SwitchOnDisabled | Fault => self.home((35, Way::Sole)),
+                SwitchOnDisabled | Fault => self.home(35, Way::Sole),
                 Ready => self.fail((23, Way::C, 0)),
                 _ => {}
             }

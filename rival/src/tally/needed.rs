@@ -1,7 +1,7 @@
 //! Everything a script is to reach, by name.
 
 use super::refused;
-use super::settings::{can_hold, EDGES, FIELDS};
+use super::settings::{can_hold, EDGES, FIELDS, INNER_METHODS};
 use super::text::{EXPECTED, FLOAT_SHAPES};
 use crate::control_word::DriveCommand::*;
 use crate::drive_state::DriveState::{self, *};
@@ -182,6 +182,7 @@ fn fields() -> Vec<String> {
             let held = EDGES.into_iter().filter(|edge| can_hold(by, field, edge));
             names.extend(held.map(|edge| format!("{by}: {name} {edge}")));
         }
+        names.extend(INNER_METHODS.map(|method| format!("{by}: method {method}")));
     }
     names
 }
@@ -229,8 +230,19 @@ fn homing() -> Vec<String> {
         names.extend(["A", "B", "C"].map(|way| format!("method {method} homed by {way}")));
     }
     names.extend([33, 34, 35].map(|method| format!("method {method} homed by Sole")));
-    names.extend((23..=30).chain([33, 34]).map(|method| format!("homing error, method {method}")));
-    names.extend(["A", "B", "C", "Sole"].map(|way| format!("homing error, route {way}")));
+    for (method, limit) in [(1, "Not"), (2, "Pot"), (17, "Not"), (18, "Pot")] {
+        names.extend(["OffLimit", "OnLimit"].map(|way| format!("method {method} homed by {way}")));
+        names.extend(["rises", "drops"].map(|turn| format!("method {method}: start as {limit} {turn}")));
+        for turn in ["rise", "drop"] {
+            let missed = ["halted", "no movement", "coasting the other way"];
+            names.extend(missed.map(|why| format!("method {method}: {limit}'s {turn} missed: {why}")));
+        }
+        let passes = ["HOM plays no part", "the limit behind rises", "Z rises in the tick of another event"];
+        names.extend(passes.map(|what| format!("method {method}: {what}")));
+    }
+    let with_a_leg = [1, 2, 17, 18].into_iter().chain(23..=30).chain([33, 34]);
+    names.extend(with_a_leg.map(|method| format!("homing error, method {method}")));
+    names.extend(["A", "B", "C", "OffLimit", "OnLimit", "Sole"].map(|way| format!("homing error, route {way}")));
     let left = [SwitchedOn, Ready, SwitchOnDisabled, QuickStopActive, FaultReaction];
     names.extend(left.map(|state| format!("idled: state {state:?}")));
     names

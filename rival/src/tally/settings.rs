@@ -9,7 +9,7 @@ use crate::writer::{self, Settings};
 
 /// A setting, and the least and the most it may be.
 pub(super) const FIELDS: [(&str, i64, i64); 15] = [
-    ("method", 23, 35),
+    ("method", 1, 35),
     ("fast", 1, (1 << 28) - 1),
     ("slow", 1, (1 << 28) - 1),
     ("offset", -(1 << 27), (1 << 27) - 1),
@@ -65,6 +65,9 @@ fn carried(kind: u32, data: u32) -> Vec<(usize, i64)> {
 /// Whether a value lies on an edge of its field or one past it.
 pub(super) const EDGES: [&str; 4] = ["just out below", "least", "most", "just out above"];
 
+/// Methods beside a gap among those that a sheet may hold: the last before it, the first and last in it, the first after it.
+pub(super) const INNER_METHODS: [i64; 12] = [2, 3, 16, 17, 18, 19, 22, 23, 30, 31, 32, 33];
+
 fn edge((_, least, most): (&str, i64, i64), value: i64) -> Option<&'static str> {
     let at = [least - 1, least, most, most + 1].iter().position(|&edge| edge == value)?;
     Some(EDGES[at])
@@ -106,9 +109,7 @@ impl Tally {
         self.saw_if(heard.is_err() && kind == sheet::START && due != sheet::START, "word: strange start halfway");
         if kind == due {
             for (field, value) in carried(kind, data) {
-                if let Some(edge) = edge(FIELDS[field], value) {
-                    self.saw(&format!("word: {} {edge}", FIELDS[field].0));
-                }
+                self.saw_value("word", field, value);
             }
         }
         if let (Ok(()), sheet::END, Some(sheet)) = (heard, kind, self.axis.sheet().copied()) {
@@ -120,6 +121,14 @@ impl Tally {
             self.saw_if(whole > u64::from(sheet::DATA), "takeover with a sum beyond 28 bits");
             self.saw_reach(&sheet);
         }
+    }
+
+    fn saw_value(&mut self, by: &str, field: usize, value: i64) {
+        let name = FIELDS[field].0;
+        if let Some(edge) = edge(FIELDS[field], value) {
+            self.saw(&format!("{by}: {name} {edge}"));
+        }
+        self.saw_if(name == "method" && INNER_METHODS.contains(&value), &format!("{by}: method {value}"));
     }
 
     fn saw_reach(&mut self, sheet: &Sheet) {
@@ -138,12 +147,10 @@ impl Tally {
                 "writer: short buffer said before out of range",
             );
         }
-        for (field, value) in FIELDS.into_iter().zip(values(settings)) {
-            if let Some(edge) = edge(field, value) {
-                self.saw(&format!("writer: {} {edge}", field.0));
-            }
+        for (field, value) in values(settings).into_iter().enumerate() {
+            self.saw_value("writer", field, value);
             self.saw_if(!(-(1 << 27)..1 << 28).contains(&value), "writer: a value beyond 28 bits");
-            self.saw_if(value > 0xFFFF && field.2 <= 3000, "writer: a small field's value beyond 16 bits");
+            self.saw_if(value > 0xFFFF && FIELDS[field].2 <= 3000, "writer: a small field's value beyond 16 bits");
         }
         if let (Err(Refusal::OutOfReach), Some(words)) = (written, settings.words()) {
             let sheet = Sheet::of(words);

@@ -5,10 +5,10 @@ use crate::axis::Axis;
 use crate::command::Command;
 use crate::control_word::{ControlWord, FAULT_RESET, HALT, HOMING_START};
 use crate::drive_state::DriveState::{self, *};
-use crate::homing::{Event, Homing, Leg, Moment};
+use crate::homing::{decider, Event, Homing, Leg, Moment, ON_LIMITS};
 use crate::hybrid::Hybrid;
 use crate::sheet::{LimitSet, Sheet};
-use crate::tick::{Answer, Tick};
+use crate::tick::{Answer, Switch, Tick};
 
 /// The axis before the tick.
 struct Before {
@@ -159,6 +159,12 @@ impl Tally {
             self.saw_if(matches!(before.homing, Homing::Homed { .. }), "start clears homed");
             self.saw_if(before.homing == Homing::Error, "start clears homing error");
             let (method, after) = (self.axis.sheet().map_or(0, |sheet| sheet.method()), self.axis.homing());
+            if let Some(limit @ (Switch::Pot | Switch::Not)) = decider(method) {
+                for (level, turn) in [(true, "rises"), (false, "drops")] {
+                    let turned = tick.switches.turned(&self.switches, limit, level);
+                    self.saw_if(turned, &format!("method {method}: start as {limit:?} {turn}"));
+                }
+            }
             if let Homing::Homed { way, .. } = after {
                 self.saw(&format!("method {method} homed by {way:?}"));
                 self.saw(if tick.control.has(HALT) { "method 35 halted" } else { "method 35 not halted" });
@@ -186,7 +192,7 @@ impl Tally {
             Homing::Idle => self.saw_idled(tick),
             Homing::Runs { .. } => self.saw_if(tick.control.has(HALT), "halt in the midst"),
         }
-        self.saw_counting(tick, before, leg, &last);
+        self.saw_counting(tick, before, method, leg, &last);
     }
 
     fn saw_idled(&mut self, tick: &Tick) {
@@ -201,25 +207,35 @@ impl Tally {
     }
 
     /// Events and limits that happen in a leg, whether they count or not.
-    fn saw_counting(&mut self, tick: &Tick, before: &Before, leg: Leg, last: &Moment) {
-        let (was, is) = (last.switches, tick.switches);
-        let event = match leg.2 {
-            Event::HomRises => is.hom && !was.hom,
-            Event::HomDrops => !is.hom && was.hom,
-            Event::ZRises => is.z && !was.z,
-            Event::LimitRises => false,
-        };
-        let (limit, opposite) = match leg.0 {
-            1 => (is.pot && !was.pot, is.not && !was.not),
-            _ => (is.not && !was.not, is.pot && !was.pot),
-        };
+    fn saw_counting(&mut self, tick: &Tick, before: &Before, method: u32, leg: Leg, last: &Moment) {
+        let turned = |switch, level| tick.switches.turned(&last.switches, switch, level);
+        let (switch, level) = leg.awaits();
+        let event = leg.2 != Event::LimitRises && turned(switch, level);
+        let limit = leg.2 != Event::Rises(leg.limit()) && turned(leg.limit(), true);
+        let opposite = turned(leg.behind(), true);
         let moved = tick.position.wrapping_sub(last.position);
         let halted = tick.control.has(HALT);
         let stays = self.axis.homing() == before.homing;
         let counts = event && !halted && !stays && moved.signum() == leg.0;
-        self.saw_if(stays && event && halted, "event missed: halted");
-        self.saw_if(stays && event && !halted && moved == 0, "event missed: no movement");
-        self.saw_if(stays && event && !halted && moved.signum() == -leg.0, "event missed: coasting the other way");
+        let missed = [
+            (halted, "halted"),
+            (!halted && moved == 0, "no movement"),
+            (!halted && moved.signum() == -leg.0, "coasting the other way"),
+        ];
+        for (_, why) in missed.into_iter().filter(|(missed, _)| stays && event && *missed) {
+            self.saw(&format!("event missed: {why}"));
+            if matches!(switch, Switch::Pot | Switch::Not) {
+                let turn = if level { "rise" } else { "drop" };
+                self.saw(&format!("method {method}: {switch:?}'s {turn} missed: {why}"));
+            }
+        }
+        if ON_LIMITS.contains(&method) && !halted {
+            let hom_turns = last.switches.hom != tick.switches.hom;
+            self.saw_if(stays && hom_turns && moved.signum() == leg.0, &format!("method {method}: HOM plays no part"));
+            self.saw_if(stays && opposite, &format!("method {method}: the limit behind rises"));
+            let z_used_up = counts && switch != Switch::Z && turned(Switch::Z, true);
+            self.saw_if(z_used_up, &format!("method {method}: Z rises in the tick of another event"));
+        }
         self.saw_if(stays && limit && halted, "limit missed: halted");
         self.saw_if(stays && opposite && !halted, "limit passes: against travel");
         self.saw_if(counts && limit, "event and limit in one tick");

@@ -1,4 +1,4 @@
--- `homing::has_failed` meets its contract: only 2 means failed.
+-- `homing::has_failed` meets its contract: what is more than 2 ^ 31 means failed.
 -- Assumes nothing.
 use Rattle.homing.proofs.Phases.{failed-test}
 use Rattle.homing.proofs.has_failed.Statement.{statement}

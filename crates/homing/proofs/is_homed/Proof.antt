@@ -1,4 +1,4 @@
--- `homing::is_homed` meets its contract: only 1 means homed.
+-- `homing::is_homed` meets its contract: only 2 ^ 31 means homed.
 -- Assumes nothing.
 use Rattle.homing.proofs.Phases.{homed-test}
 use Rattle.homing.proofs.is_homed.Statement.{statement}

@@ -1,4 +1,4 @@
--- `homing::is_running` meets its contract: a leg runs from 3 on.
+-- `homing::is_running` meets its contract: a leg runs in what is neither 0 nor 2 ^ 31 or more.
 -- Assumes nothing.
 use Rattle.homing.proofs.Phases.{running-test}
 use Rattle.homing.proofs.is_running.Statement.{statement}

@@ -1,31 +1,37 @@
--- `speed::speed` meets its contract: the code asks whether the digit holds a leg.
+-- `speed::speed` meets its contract: each branch settles the test of the leg's speed.
 -- Assumes nothing.
 use mir.Facts.{toZ-ofZ}
 use mir.Syntax.{w32}
 use mir.Val.{SFits}
-use Rattle.speed.proofs.Digit.{digit-speed}
 use borrow.Author.Needs.{needs}
 use Rattle.speed.proofs.speed.Statement.{statement}
 use Rattle.speed.proofs.speed.Tie as tie
 
-is-leg-requires : tie.Need-is-leg-requires
-is-leg-requires c κs = search needs
+is-forward-requires : tie.Need-is-forward-requires
+is-forward-requires c κs = search needs
 
-leg-speed-requires : tie.Need-leg-speed-requires
-leg-speed-requires c κs = search needs
+is-fast-requires : tie.Need-is-fast-requires
+is-fast-requires c κs = search needs
+
+signed-requires : tie.Need-signed-requires
+signed-requires c κs = search needs
+
+signed-requires-2 : tie.Need-signed-requires-2
+signed-requires-2 c κs = search needs
 
 returns : tie.Need-returns
 returns c =
-    let l = c .before .before in
-    let x = l .before .args in
-    let r : SFits w32 (c .leg-speed .result) = search needs in
-    rw (toZ-ofZ r, c .leg-speed .ensures, digit-speed (x .s) (x .leg), ← l .is-leg .ensures, c .before .if1 .taken)
+    let f = c .before .before in
+    let r : SFits w32 (c .signed .result) = search needs in
+    rw (toZ-ofZ r, c .signed .ensures, ← f .before .is-forward .ensures, ← f .is-fast .ensures, c .before .if1 .taken)
 
 returns-2 : tie.Need-returns-2
 returns-2 c =
-    let l = c .before in
-    let x = l .before .args in
-    rw (digit-speed (x .s) (x .leg), ← l .is-leg .ensures, c .if1 .left)
+    let f = c .before .before in
+    let r : SFits w32 (c .signed2 .result) = search needs in
+    rw (toZ-ofZ r, c .signed2 .ensures, ← f .before .is-forward .ensures, ← f .is-fast .ensures, c .before .if1 .left)
 
 pub speed-spec : {M : Type 1} → statement M
-speed-spec = tie.close (tie.spec is-leg-requires leg-speed-requires returns returns-2)
+speed-spec =
+    tie.close
+    (tie.spec is-forward-requires is-fast-requires signed-requires signed-requires-2 returns returns-2)

@@ -7,9 +7,6 @@ use Rattle.axis.proofs.under.out_of_homing.Tie as tie
 phase-requires : tie.Need-phase-requires
 phase-requires c κs = search needs
 
-method-requires : tie.Need-method-requires
-method-requires c κs = search needs
-
 stop-requires : tie.Need-stop-requires
 stop-requires c κs = search needs
 
@@ -19,9 +16,8 @@ put-phase-requires c κs = search needs
 returns : tie.Need-returns
 returns c =
     let s = c .before .before in
-    let m = s .before in
-    rw (← m .before .before .phase .ensures, ← m .method .ensures, ← s .stop .ensures) (c .put-phase .ensures)
+    rw (← s .before .phase .ensures, ← s .stop .ensures) (c .put-phase .ensures)
 
 pub out-of-homing-spec : {M : Type 1} → statement M
 out-of-homing-spec =
-    tie.close (tie.spec phase-requires method-requires stop-requires put-phase-requires returns)
+    tie.close (tie.spec phase-requires stop-requires put-phase-requires returns)

@@ -1,8 +1,7 @@
--- `legs::events::event_counts` meets its contract: its parts are the definition's, of the leg in the digit.
+-- `legs::events::event_counts` meets its contract: its parts are the definition's.
 -- Assumes nothing.
 use borrow.Author.Needs.{needs}
-use Rattle.legs.specs.Events.{viewOf}
-use Rattle.legs.proofs.Digit.{event-test}
+use Rattle.legs.proofs.Numbers.{event-test}
 use Rattle.legs.proofs.events.event_counts.Statement.{statement}
 use Rattle.legs.proofs.events.event_counts.Tie as tie
 
@@ -17,9 +16,10 @@ edge-seen-requires c κs = search needs
 
 returns : tie.Need-returns
 returns c =
-    let a = c .before .before in
+    let e = c .before in
+    let a = e .before in
     let x = a .before .before .args in
-    rw (c .before .edge-seen .ensures, a .along-leg .ensures, a .before .is-forward .ensures) (event-test (x .leg) (viewOf (x .seen)))
+    rw (e .edge-seen .ensures, a .along-leg .ensures, a .before .is-forward .ensures) (event-test (x .leg) (x .seen))
 
 pub event-counts-spec : {M : Type 1} → statement M
 event-counts-spec =

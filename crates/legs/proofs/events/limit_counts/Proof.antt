@@ -1,26 +1,27 @@
--- `legs::events::limit_counts` meets its contract: its parts are the definition's, of the leg in the digit.
+-- `legs::events::limit_counts` meets its contract: its parts are the definition's.
 -- Assumes nothing.
+use native.Mathlib.Omega.{arith}
 use borrow.Author.Needs.{needs}
-use Rattle.legs.specs.Events.{viewOf}
-use Rattle.legs.proofs.Digit.{limit-test}
+use Rattle.legs.proofs.Numbers.{limit-test}
 use Rattle.legs.proofs.events.limit_counts.Statement.{statement}
 use Rattle.legs.proofs.events.limit_counts.Tie as tie
 
 is-forward-requires : tie.Need-is-forward-requires
 is-forward-requires c κs = search needs
 
-limit-risen-requires : tie.Need-limit-risen-requires
-limit-risen-requires c κs = search needs
+limit-place-requires : tie.Need-limit-place-requires
+limit-place-requires c κs = search needs
 
-is-leg-requires : tie.Need-is-leg-requires
-is-leg-requires c κs = search needs
+risen-requires : tie.Need-risen-requires
+risen-requires c κs = let h = c .limit-place .ensures .1 in omega arith
 
 returns : tie.Need-returns
 returns c =
-    let l = c .before .before in
+    let r = c .before in
+    let l = r .before in
     let x = l .before .before .args in
-    rw (c .before .is-leg .ensures, l .limit-risen .ensures, l .before .is-forward .ensures) (limit-test (x .leg) (viewOf (x .seen)))
+    rw (r .risen .ensures, l .limit-place .ensures .0, l .before .is-forward .ensures) (limit-test (x .leg) (x .seen))
 
 pub limit-counts-spec : {M : Type 1} → statement M
 limit-counts-spec =
-    tie.close (tie.spec is-forward-requires limit-risen-requires is-leg-requires returns)
+    tie.close (tie.spec is-forward-requires limit-place-requires risen-requires returns)

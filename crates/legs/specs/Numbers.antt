@@ -1,0 +1,100 @@
+-- A leg as a byte, and a route as a number, a byte a leg, the first one lowest: how the code holds them.
+-- Assumes nothing.
+use Prim.Native.Nat.{ℕ, _+_, _*_, _/_, _%_}
+use mathlib.Core.Bool.{Bool, true, false, cond}
+use mathlib.Core.List.{List, [], _∷_}
+use mathlib.Core.Option.{Option, none, some}
+use lib.Dec.{eqb}
+use Rattle.legs.specs.declared.events.Switches.{Switches}
+use Rattle.legs.specs.Legs.{Switch, Home, Index, LimitAhead, LimitBehind, Edge, Rise, Drop, Leg}
+use Rattle.legs.specs.Routes.{Row, rowOf}
+
+-- the place of the limit ahead in a word of switches: POT is bit 0, NOT bit 1
+abbrev pub aheadPlace : Bool → ℕ
+aheadPlace forward = cond forward 0 1
+
+abbrev switchPlace : Switch → Bool → ℕ
+switchPlace Home forward = 2
+switchPlace Index forward = 3
+switchPlace LimitAhead forward = aheadPlace forward
+switchPlace LimitBehind forward = cond forward 1 0
+
+abbrev edgeBit : Edge → ℕ
+edgeBit Rise = 0
+edgeBit Drop = 4
+
+-- the byte of a leg whose event counts by movement, as that of every leg that runs does: its switch's place in a word of switches (POT,
+-- NOT, HOM, Z), 4 more if it awaits the drop, 8 more if it goes forward, 16 more if it is fast
+abbrev byteOf : Leg → ℕ
+byteOf l = switchPlace (l .switch) (l .forward) + edgeBit (l .edge) + cond (l .forward) 8 0 + cond (l .fast) 16 0
+
+-- 0 is a route with no leg
+abbrev pub routeNumber : List Leg → ℕ
+routeNumber [] = 0
+routeNumber (l ∷ ls) = byteOf l + 256 * routeNumber ls
+
+abbrev pub isRoute : List Leg → Bool
+isRoute [] = false
+isRoute (l ∷ ls) = true
+
+abbrev pub rest : List Leg → List Leg
+rest [] = []
+rest (l ∷ ls) = ls
+
+-- route a; its first leg has 32 more where a limit turns it, since there is a b
+abbrev pub mainIn : Option Row → ℕ
+mainIn none = 0
+mainIn (some r) = cond (isRoute (r .b)) 32 0 + routeNumber (r .a)
+
+-- route b without its first leg, and route c
+abbrev pub turnIn : Option Row → ℕ
+turnIn none = 0
+turnIn (some r) = routeNumber (rest (r .b))
+
+abbrev pub skipIn : Option Row → ℕ
+skipIn none = 0
+skipIn (some r) = routeNumber (r .c)
+
+-- whether the switches of a start pick route c
+abbrev pub picksIn : Option Row → Switches → Bool
+picksIn none s = false
+picksIn (some r) s = r .picks s
+
+unfoldable pub mainRoute : ℕ → ℕ
+mainRoute method = mainIn (rowOf method)
+
+unfoldable pub turnRoute : ℕ → ℕ
+turnRoute method = turnIn (rowOf method)
+
+unfoldable pub skipRoute : ℕ → ℕ
+skipRoute method = skipIn (rowOf method)
+
+unfoldable pub skips : ℕ → Switches → Bool
+skips method s = picksIn (rowOf method) s
+
+-- the route of a start, by the switches of its tick
+unfoldable pub startRoute : ℕ → Switches → ℕ
+startRoute method s = cond (skips method s) (skipRoute method) (mainRoute method)
+
+-- and back: the first leg's direction and speed, the edge that it awaits, and whether a limit turns it
+abbrev pub forwardIn : ℕ → Bool
+forwardIn route = eqb (route / 8 % 2) 1
+
+abbrev pub fastIn : ℕ → Bool
+fastIn route = eqb (route / 16 % 2) 1
+
+abbrev pub edgeIn : ℕ → Edge
+edgeIn route = cond (eqb (route / 4 % 2) 1) Drop Rise
+
+abbrev pub turnsIn : ℕ → Bool
+turnsIn route = eqb (route / 32 % 2) 1
+
+-- the switch at a place, seen from a leg in this direction
+abbrev pub switchAt : Bool → ℕ → Switch
+switchAt forward place =
+    cond (eqb place 3) Index (cond (eqb place 2) Home (cond (eqb place (aheadPlace forward)) LimitAhead LimitBehind))
+
+-- the first leg of a route that has one
+abbrev pub legFrom : ℕ → Leg
+legFrom route =
+    record { forward = forwardIn route; fast = fastIn route; switch = switchAt (forwardIn route) (route % 4); edge = edgeIn route; moving = true }
