@@ -117,7 +117,7 @@ enum {
 
 /* The fields of settings, by CiA 402's names. */
 enum {
-    AXIS_FIELD_HOMING_METHOD = 0,           /* 23 to 30, 33, 34 or 35 */
+    AXIS_FIELD_HOMING_METHOD = 0,           /* 1, 2, 17, 18, 23 to 30, 33, 34 or 35 */
     AXIS_FIELD_HOMING_SPEED_FAST = 1,       /* 1 to 2^28 - 1: searching for a switch */
     AXIS_FIELD_HOMING_SPEED_SLOW = 2,       /* 1 to 2^28 - 1: at its edge, or searching for the index pulse */
     AXIS_FIELD_HOME_OFFSET = 3,             /* user units (signed), -2^27 to 2^27 - 1 */

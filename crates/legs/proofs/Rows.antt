@@ -1,19 +1,21 @@
 -- Which numbers are methods, which switch picks route c, and how the code finds the routes: tests that antt computes over the table.
 -- Assumes nothing.
-use mathlib.Core.Path.{_≡_, refl, subst}
-use mathlib.Core.Bool.{Bool, true, false, cond, _||_}
+use mathlib.Core.Path.{_≡_, refl, sym, ap, subst, _∙_}
+use mathlib.Core.Bool.{Bool, true, false, cond, _&&_, _||_}
 use mathlib.Core.List.{List, [], _∷_, map, head-eq-of-cons-eq, tail-eq-of-cons-eq}
 use mathlib.Core.Option.{Option, none, some}
-use Prim.Native.Nat.{ℕ, _+_, _-_, _/_, _^_, _≤_, _<_}
+use Prim.Native.Nat.{ℕ, _+_, _-_, _%_, _^_, _≤_, _<_}
 use native.Mathlib.Omega.{arith}
 use lib.Dec.{eqb, leb, ltb}
 use Rattle.counts.specs.Between.{between}
+use Rattle.counts.specs.Bit.{bitOf}
 use Rattle.ranges.specs.Range.{methodOk}
 use Rattle.counts.proofs.Between.{over}
-use borrow.Author.Tests.{eqb-true, leb-true, ltb-true, ltb-false, le-ltb, ne-eqb}
+use borrow.Author.Tests.{eqb-true, leb-true, ltb-true, ltb-false, ne-eqb}
 use Rattle.legs.specs.declared.events.Switches.{Switches}
+use Rattle.legs.specs.Events.{switchesIn}
 use Rattle.legs.specs.Routes.{Row, Entry, table, lookup, rowOf}
-use Rattle.legs.specs.Numbers.{mainIn, turnIn, skipIn, picksIn, mainRoute, turnRoute, skipRoute, skips}
+use Rattle.legs.specs.Numbers.{mainIn, turnIn, skipIn, picksIn, mainRoute, turnRoute, skipRoute, skips, startRoute, skipBy}
 use Rattle.legs.proofs.Computed.{listed, agree}
 
 -- what is computed of every entry of a table is so of a row that is found
@@ -62,24 +64,7 @@ method-rule =
       over 33 35 n (omega arith) (omega arith),
     ))
 
--- which switch picks route c, by the method's number
-abbrev pub pickedBy : ℕ → Switches → Bool
-pickedBy m s =
-    cond (between 23 30 m) (s .home) (cond (eqb m 1 || eqb m 17) (s .negative) (cond (eqb m 2 || eqb m 18) (s .positive) false))
-
-pub skip-rule : (m : ℕ) (s : Switches) → skips m s ≡ pickedBy m s
-unfolding rowOf skips
-skip-rule m s =
-    everywhere (λ o. picksIn o s) (λ n. pickedBy n s) refl (λ n h. rw (
-      over 23 30 n (omega arith) (omega arith),
-      ne-eqb n 1 (λ p. omega arith),
-      ne-eqb n 17 (λ p. omega arith),
-      ne-eqb n 2 (λ p. omega arith),
-      ne-eqb n 18 (λ p. omega arith),
-    )) m
-
--- Where the code finds the other routes: b goes on as route a of the method 53 less, whose first leg turns, and c is b without its first
--- two legs, a without its first, or a itself.
+-- Where the code finds the other routes: b goes on as route a of the method 53 less, whose first leg turns.
 abbrev pub turnBy : ℕ → ℕ
 turnBy m = cond (between 23 30 m) (mainRoute (53 - m) - 32) 0
 
@@ -87,26 +72,52 @@ pub turn-rule : (m : ℕ) → turnRoute m ≡ turnBy m
 unfolding rowOf mainRoute turnRoute
 turn-rule = everywhere turnIn turnBy refl (λ n h. rw (over 23 30 n (omega arith) (omega arith)))
 
-abbrev pub skipBy : ℕ → ℕ
-skipBy m =
-    cond (between 25 26 m || between 29 30 m) (turnRoute m / 256) (cond (ltb m 33) (mainRoute m / 256) (mainRoute m))
+-- A start picks route c by the switch that a's first leg awaits, in a method up to 30; c is then as the code finds it.
+abbrev started : Option Row → Switches → ℕ
+started o s = cond (picksIn o s) (skipIn o) (mainIn o)
 
-pub skip-by-rule : (m : ℕ) → skipRoute m ≡ skipBy m
-unfolding rowOf mainRoute turnRoute skipRoute
-skip-by-rule =
-    everywhere skipIn skipBy refl (λ n h. rw (
-      over 25 26 n (omega arith) (omega arith),
-      over 29 30 n (omega arith) (omega arith),
-      le-ltb n 33 (omega arith),
+abbrev methodStart : ℕ → ℕ → ℕ
+methodStart m bits = cond (methodOk m && leb m 30) (cond (bitOf bits (mainRoute m % 4)) (skipBy m) (mainRoute m)) (mainRoute m)
+
+of-methods : (m bits : ℕ) → started (rowOf m) (switchesIn bits) ≡ methodStart m bits
+unfolding rowOf mainRoute turnRoute methodOk
+of-methods m bits =
+    everywhere (λ o. started o (switchesIn bits)) (λ n. methodStart n bits) refl (λ n h. rw (
+      over 1 2 n (omega arith) (omega arith),
+      over 17 18 n (omega arith) (omega arith),
+      over 23 30 n (omega arith) (omega arith),
+      over 33 35 n (omega arith) (omega arith),
       beyond n h,
-    ))
+    )) m
+
+pub start-by : (m bits : ℕ)
+    → startRoute m (switchesIn bits) ≡ cond (leb m 30 && bitOf bits (mainRoute m % 4)) (skipBy m) (mainRoute m)
+unfolding startRoute skips skipRoute mainRoute turnRoute
+start-by m bits = go (rowOf m) refl
+  where
+    split : (a b : Bool) (x y : ℕ) → cond a (cond b x y) y ≡ cond (a && b) x y
+    split true b x y = refl
+    split false b x y = refl
+
+    nothing : (a b : Bool) → _≡_ {A = ℕ} 0 (cond a (cond b 0 0) 0)
+    nothing true true = refl
+    nothing true false = refl
+    nothing false b = refl
+
+    go : (o : Option Row) → rowOf m ≡ o
+        → startRoute m (switchesIn bits) ≡ cond (leb m 30 && bitOf bits (mainRoute m % 4)) (skipBy m) (mainRoute m)
+    go none e = rw e (nothing (leb m 30 && bitOf bits 0) (between 25 26 m || between 29 30 m))
+    go (some r) e =
+        of-methods m bits
+        ∙ ap (λ (b : Bool). cond (b && leb m 30) (cond (bitOf bits (mainRoute m % 4)) (skipBy m) (mainRoute m)) (mainRoute m)) (sym (method-rule m) ∙ ap isRow e)
+        ∙ split (leb m 30) (bitOf bits (mainRoute m % 4)) (skipBy m) (mainRoute m)
 
 -- routes fit in three bytes, and a first leg that turns has 32 to give
 small : (f : Option Row → ℕ) → listed (λ m. ltb (f (rowOf m)) (2 ^ 24)) 0 36 ≡ listed (λ m. true) 0 36 → ltb (f none) (2 ^ 24) ≡ true
     → (m : ℕ) → f (rowOf m) < 2 ^ 24
 small f e z m = ltb-true (f (rowOf m)) (2 ^ 24) (everywhere (λ o. ltb (f o) (2 ^ 24)) (λ n. true) e (λ n h. z) m)
 
-pub main-small : (m : ℕ) → mainRoute m < 2 ^ 24
+main-small : (m : ℕ) → mainRoute m < 2 ^ 24
 unfolding rowOf mainRoute
 main-small = small mainIn refl refl
 
@@ -114,9 +125,17 @@ pub turn-small : (m : ℕ) → turnRoute m < 2 ^ 24
 unfolding rowOf turnRoute
 turn-small = small turnIn refl refl
 
-pub skip-small : (m : ℕ) → skipRoute m < 2 ^ 24
+skip-small : (m : ℕ) → skipRoute m < 2 ^ 24
 unfolding rowOf skipRoute
 skip-small = small skipIn refl refl
+
+pub start-small : (m : ℕ) (s : Switches) → startRoute m s < 2 ^ 24
+unfolding startRoute
+start-small m s = go (skips m s)
+  where
+    go : (b : Bool) → cond b (skipRoute m) (mainRoute m) < 2 ^ 24
+    go true = skip-small m
+    go false = main-small m
 
 pub turns-main : (m : ℕ) → 23 ≤ m → m ≤ 30 → 32 ≤ mainRoute m
 unfolding rowOf mainRoute

@@ -1,10 +1,11 @@
 -- A leg as a byte, and a route as a number, a byte a leg, the first one lowest: how the code holds them.
 -- Assumes nothing.
 use Prim.Native.Nat.{ℕ, _+_, _*_, _/_, _%_}
-use mathlib.Core.Bool.{Bool, true, false, cond}
+use mathlib.Core.Bool.{Bool, true, false, cond, _||_}
 use mathlib.Core.List.{List, [], _∷_}
 use mathlib.Core.Option.{Option, none, some}
 use lib.Dec.{eqb}
+use Rattle.counts.specs.Between.{between}
 use Rattle.legs.specs.declared.events.Switches.{Switches}
 use Rattle.legs.specs.Legs.{Switch, Home, Index, LimitAhead, LimitBehind, Edge, Rise, Drop, Leg}
 use Rattle.legs.specs.Routes.{Row, rowOf}
@@ -75,6 +76,10 @@ skips method s = picksIn (rowOf method) s
 -- the route of a start, by the switches of its tick
 unfoldable pub startRoute : ℕ → Switches → ℕ
 startRoute method s = cond (skips method s) (skipRoute method) (mainRoute method)
+
+-- how the code finds route c of a method up to 30 (`start-by`, `legs/proofs/Rows.antt`): b without its first two legs, or a without its first
+abbrev pub skipBy : ℕ → ℕ
+skipBy method = cond (between 25 26 method || between 29 30 method) (turnRoute method / 256) (mainRoute method / 256)
 
 -- and back: the first leg's direction and speed, the edge that it awaits, and whether a limit turns it
 abbrev pub forwardIn : ℕ → Bool

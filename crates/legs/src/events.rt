@@ -19,7 +19,7 @@ const POSITIVE: u32 = 0;
 
 const NEGATIVE: u32 = 1;
 
-// Whether POT, NOT and HOM are on.
+// Whether POT and NOT are on.
 pub fn positive_on(switches: u32) -> bool
     ensures { λ r. ⌜ r ≡ switchesIn switches .positive ⌝ }
 {
@@ -30,12 +30,6 @@ pub fn negative_on(switches: u32) -> bool
     ensures { λ r. ⌜ r ≡ switchesIn switches .negative ⌝ }
 {
     switches / 2 % 2 == 1
-}
-
-pub fn home_on(switches: u32) -> bool
-    ensures { λ r. ⌜ r ≡ switchesIn switches .home ⌝ }
-{
-    switches / 4 % 2 == 1
 }
 
 // What homing sees of one tick after the start. kept: control bit 4 is set, homing is matched and the new state is Operation enabled;

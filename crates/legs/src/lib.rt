@@ -4,26 +4,11 @@
 // fast, 32 more if a limit turns it to route b. A route is a number: a byte for each leg, the first lowest.
 pub mod events;
 
-ghost use Prim.Native.Nat.{_<_, _^_};
+ghost use Prim.Native.Nat.{_%_, _<_, _^_};
 ghost use mathlib.Core.Path.{_≡_};
-ghost use mathlib.Core.Bool.{_||_};
-ghost use Rattle.counts.specs.Between.{between};
+ghost use Rattle.counts.specs.Bit.{bitOf};
 ghost use Rattle.legs.specs.Events.{switchesIn};
-ghost use Rattle.legs.specs.Numbers.{mainRoute, turnRoute, skipRoute, skips, startRoute, forwardIn, fastIn, turnsIn};
-
-// Whether a start picks route c: by HOM, in 17 and 1 by NOT, in 18 and 2 by POT, and never in 33 to 35.
-fn skips_leg(method: u32, switches: u32) -> bool
-    ensures { λ r. ⌜ r ≡ skips method (switchesIn switches) ⌝ }
-{
-    match method {
-        1 => events::negative_on(switches),
-        2 => events::positive_on(switches),
-        17 => events::negative_on(switches),
-        18 => events::positive_on(switches),
-        23..=30 => events::home_on(switches),
-        _ => false,
-    }
-}
+ghost use Rattle.legs.specs.Numbers.{mainRoute, turnRoute, skipBy, startRoute, forwardIn, fastIn, turnsIn};
 
 // Route a. R, D and Z are 01's events, A is the rise of the limit ahead, B the drop of the limit behind. 35 and a number that is no method have
 // no leg.
@@ -60,34 +45,32 @@ pub fn turn_route(method: u32) -> u32
     }
 }
 
-// Whether route c is b without its first two legs.
-fn ends_b(method: u32) -> bool
-    ensures { λ r. ⌜ r ≡ between 25 26 method || between 29 30 method ⌝ }
-{
-    match method {
-        25..=26 | 29..=30 => true,
-        _ => false,
-    }
-}
-
-// Route c: the end of b, a without its first leg, or a itself.
+// Route c of a method up to 30: the end of b, or a without its first leg.
 fn skip_route(method: u32, main: u32) -> u32
     requires { ⌜ main ≡ mainRoute method ⌝ }
-    ensures { λ r. ⌜ r ≡ skipRoute method ⌝ }
+    ensures { λ r. ⌜ r ≡ skipBy method ⌝ }
 {
-    if ends_b(method) {
-        return turn_route(method) / 256;
+    match method {
+        25 | 26 | 29 | 30 => turn_route(method) / 256,
+        _ => main / 256,
     }
-    if method < 33 { main / 256 } else { main }
 }
 
-// The route of a start, by the switches of its tick.
+// Whether the switch that a leg awaits is on.
+fn awaited_on(leg: u32, switches: u32) -> bool
+    ensures { λ r. ⌜ r ≡ bitOf switches (leg % 4) ⌝ }
+{
+    (switches >> (leg % 4)) % 2 == 1
+}
+
+// The route of a start, by the switches of its tick. The switch that picks route c is the one that a's first leg awaits, HOM, NOT or POT; 33 to
+// 35 have one route.
 pub fn start_route(method: u32, switches: u32) -> u32
     ensures value { λ r. ⌜ r ≡ startRoute method (switchesIn switches) ⌝ }
     ensures small { λ r. ⌜ r < 2 ^ 24 ⌝ }
 {
     let main = main_route(method);
-    if skips_leg(method, switches) {
+    if (method <= 30) & awaited_on(main, switches) {
         skip_route(method, main)
     } else {
         main
