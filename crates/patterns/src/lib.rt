@@ -1,5 +1,5 @@
 // 32-bit words read as signed numbers, switches, the drive's states and modes. Every word means one of each. Back again:
-// `counts::pattern`, `switch_bits`, `states::state_number`, `modes::place`.
+// `counts::pattern`, `switch_bits`, `states::state_number`, `modes::ordinal`.
 use legs::events::Switches;
 use modes::Mode;
 use states::State;
