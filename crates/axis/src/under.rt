@@ -76,7 +76,7 @@ fn torque_in(axis: &Lent, set: LimitSet, on: bool, demand: Demand) -> i32
     }
 }
 
-// What homing sees of the tick.
+// What homing sees of a tick in which it is matched and the drive in Operation enabled.
 fn seen(axis: &Lent, t: Tick, switches: u32) -> Seen
     requires { ⌜ switches ≡ switchBits (t .switches) ⌝ }
     ensures { λ r. ⌜ viewOf r ≡ viewWith (motionIn (now (axis .entry)) .switches) (motionIn (now (axis .entry)) .position) t true ⌝ }
@@ -97,7 +97,7 @@ fn speed_in(axis: &Lent, leg: u32) -> i32
     speed::speed(cells::settings_in(axis), leg)
 }
 
-// Where homing stands. Home is the position of the tick in which the axis becomes homed.
+// Where homing stands after a start or a step. Home is the position of the tick in which the axis becomes homed.
 fn put_stand(axis: &mut Lent, phase: u32, position: i32)
     ensures { λ _. ⌜ Moved (now (axis .entry)) (arrived (motionIn (now (axis .entry))) (phaseOf phase) position) (now (axis .exit)) ⌝ }
 {
@@ -107,7 +107,7 @@ fn put_stand(axis: &mut Lent, phase: u32, position: i32)
     }
 }
 
-// Returns the speed: that of the running leg, and 0 in a halted tick.
+// The same, and the speed: that of the running leg, 0 where none runs and in a halted tick.
 fn settle(axis: &mut Lent, phase: u32, halted: bool, position: i32) -> i32
     ensures moved { λ _. ⌜ Moved (now (axis .entry)) (arrived (motionIn (now (axis .entry))) (phaseOf phase) position) (now (axis .exit)) ⌝ }
     ensures speed { λ r. ⌜ r ≡ speedOf (settingsIn (now (axis .entry))) (phaseOf phase) halted ⌝ }

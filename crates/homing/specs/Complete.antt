@@ -24,7 +24,7 @@ pub record Cut (Before Last : View → Type 0) (After : List View → Type 0) (v
   pub then : After rest
 
 -- a tick of leg l's segment before its end: it does not idle homing, the leg's event does not count, and no limit rise counts, which
--- would set the error or, in a first leg that has a b, turn to it
+-- would set the error or, in a's first leg, where there is a b, turn to it
 pub record Waits (l : Leg) (v : View) : Type 0 where
   pub kept : So (v .kept)
   pub uncounted : eventCounts l v ≡ false

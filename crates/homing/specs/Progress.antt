@@ -41,7 +41,7 @@ advanceAll p (v ∷ vs) = advanceAll (advance p v) vs
 abbrev pub begun : Plan → Progress
 begun p = begin (p .main) (p .turn)
 
--- no plan leaves homing idle
+-- no plan makes homing idle
 abbrev pub started : Option Plan → Progress
 started none = idle
 started (some p) = begun p

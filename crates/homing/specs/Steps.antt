@@ -43,7 +43,7 @@ stepOf Homed method v = Homed
 stepOf Failed method v = Failed
 
 -- what `stepOf` comes to in a tick that does not keep homing (`Stopped`, `homing/proofs`): "A later tick with bit 4 clear, homing not matched
--- or another state makes homing idle."
+-- or another state makes homing idle." Homed and error stay.
 abbrev pub stoppedOf : Phase → Phase
 stoppedOf Idle = Idle
 stoppedOf (Running route) = Idle

@@ -8,7 +8,8 @@ ghost use Rattle.legs.specs.Events.{switchesIn, viewOf};
 ghost use Rattle.homing.specs.Phase.{phaseOf, homedIn, runningIn, failedIn};
 ghost use Rattle.homing.specs.Steps.{entered, limitAt, runningOf, startOf, stepOf, stoppedOf};
 
-// Where homing stands, as one number: idle, homed, failed, or else the running leg and those after it, a route of `legs`.
+// Where homing stands, as one number: idle, homed, failed (also any number above that), or else the running leg and those after it, a route of
+// `legs`.
 pub const IDLE: u32 = 0;
 
 pub const HOMED: u32 = 0x8000_0000;

@@ -80,6 +80,6 @@ isAhead LimitAhead = true
 isAhead LimitBehind = false
 
 -- "A limit rise in travel direction, with or without movement"; "The awaited switch's rise is no homing error" (02, (i)); and in a halted
--- tick nothing counts. That the event of the same tick goes first is said where both are asked (`advance`, `legTick`).
+-- tick nothing counts. That the event of the same tick goes first is said where both are asked (`advance`, `runningOf`).
 unfoldable pub limitCounts : Leg → View → Bool
 limitCounts l v = not (v .halted) && (not (isAhead (l .switch)) && limitRises (l .forward) v)

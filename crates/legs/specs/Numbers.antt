@@ -24,8 +24,9 @@ abbrev edgeBit : Edge → ℕ
 edgeBit Rise = 0
 edgeBit Drop = 4
 
--- the byte of a leg whose event counts by movement, as that of every leg that runs does: its switch's place in a word of switches (POT,
--- NOT, HOM, Z), 4 more if it awaits the drop, 8 more if it goes forward, 16 more if it is fast
+-- the byte of a leg: its switch's place in a word of switches (POT, NOT, HOM, Z), 4 more if it awaits the drop, 8 more if it goes forward, 16
+-- more if it is fast. Every leg that runs has an event that counts by movement; b's first, which does not, gets no byte. No leg of the table
+-- has the byte 0. So the bytes of a route spell its legs: computed over the table, `homing/proofs/Simulation.antt`.
 abbrev byteOf : Leg → ℕ
 byteOf l = switchPlace (l .switch) (l .forward) + edgeBit (l .edge) + cond (l .forward) 8 0 + cond (l .fast) 16 0
 
@@ -81,7 +82,7 @@ startRoute method s = cond (skips method s) (skipRoute method) (mainRoute method
 abbrev pub skipBy : ℕ → ℕ
 skipBy method = cond (between 25 26 method || between 29 30 method) (turnRoute method / 256) (mainRoute method / 256)
 
--- and back: the first leg's direction and speed, the edge that it awaits, and whether a limit turns it
+-- of a route's number, its first leg: direction and speed, the edge that it awaits, and whether a limit turns it
 abbrev pub forwardIn : ℕ → Bool
 forwardIn route = eqb (route / 8 % 2) 1
 

@@ -19,7 +19,7 @@ const POSITIVE: u32 = 0;
 
 const NEGATIVE: u32 = 1;
 
-// Whether POT and NOT are on.
+// Whether POT is on, and whether NOT is.
 pub fn positive_on(switches: u32) -> bool
     ensures { λ r. ⌜ r ≡ switchesIn switches .positive ⌝ }
 {
@@ -80,7 +80,7 @@ fn limit_place(forward: bool) -> u32
     if forward { POSITIVE } else { NEGATIVE }
 }
 
-// Whether the leg's event counts.
+// Whether the event of a route's first leg counts.
 pub fn event_counts(leg: u32, seen: Seen) -> bool
     ensures { λ r. ⌜ r ≡ eventCounts (legFrom leg) (viewOf seen) ⌝ }
 {
@@ -90,7 +90,8 @@ pub fn event_counts(leg: u32, seen: Seen) -> bool
     !seen.halted & (moved & edge)
 }
 
-// Whether the limit in the leg's direction rises, with or without movement, and is not the leg's own switch.
+// Whether the limit in that leg's direction counts: it rises, with or without movement, in a tick that is not halted, and is not the switch that
+// the leg awaits.
 pub fn limit_counts(leg: u32, seen: Seen) -> bool
     ensures { λ r. ⌜ r ≡ limitCounts (legFrom leg) (viewOf seen) ⌝ }
 {

@@ -10,8 +10,8 @@ ghost use Rattle.counts.specs.Bit.{bitOf};
 ghost use Rattle.legs.specs.Events.{switchesIn};
 ghost use Rattle.legs.specs.Numbers.{mainRoute, turnRoute, skipBy, startRoute, forwardIn, fastIn, turnsIn};
 
-// Route a. R, D and Z are 01's events, A is the rise of the limit ahead, B the drop of the limit behind. 35 and a number that is no method have
-// no leg.
+// Route a. F is fast, S slow; R, D and Z are 01's events, A is the rise of the limit ahead, B the drop of the limit behind. 35 and a number that is
+// no method have no leg.
 fn main_route(method: u32) -> u32
     ensures { λ r. ⌜ r ≡ mainRoute method ⌝ }
 {
@@ -34,7 +34,8 @@ fn main_route(method: u32) -> u32
     }
 }
 
-// Route b without its first leg: route a of another method, that of 30 for 23, of 29 for 24, and so on; but no limit turns it again.
+// Route b without its first leg: route a of another method, that of 30 for 23, of 29 for 24, and so on; but no limit turns it again. 0
+// where there is none.
 pub fn turn_route(method: u32) -> u32
     ensures value { λ r. ⌜ r ≡ turnRoute method ⌝ }
     ensures small { λ r. ⌜ r < 2 ^ 24 ⌝ }
@@ -45,7 +46,7 @@ pub fn turn_route(method: u32) -> u32
     }
 }
 
-// Route c of a method up to 30: the end of b, or a without its first leg.
+// Route c of a method up to 30: b without its first two legs, or a without its first.
 fn skip_route(method: u32, main: u32) -> u32
     requires { ⌜ main ≡ mainRoute method ⌝ }
     ensures { λ r. ⌜ r ≡ skipBy method ⌝ }
