@@ -10,8 +10,8 @@ use crate::tick::{Switch, Switches};
 pub enum Event {
     Rises(Switch),
     Drops(Switch),
-    /// "limit rise in travel direction, with or without movement"
-    LimitRises,
+    /// "a limit in the travel direction counts whenever it is on": by its level, "with no movement needed".
+    LimitOn,
 }
 
 impl Event {
@@ -20,7 +20,7 @@ impl Event {
         match self {
             Event::Rises(switch) => Event::Rises(turned(switch)),
             Event::Drops(switch) => Event::Drops(turned(switch)),
-            Event::LimitRises => Event::LimitRises, // the limit goes by the turned direction
+            Event::LimitOn => Event::LimitOn, // the limit goes by the turned direction
         }
     }
 }
@@ -43,13 +43,12 @@ pub enum Speed {
 #[derive(Clone, Copy, Debug, PartialEq, Eq)]
 pub struct Leg(pub i32, pub Speed, pub Event);
 
-use Event::LimitRises as L;
+use Event::LimitOn as L;
 use Speed::{Fast as F, Slow as S};
 
 const R: Event = Event::Rises(Switch::Hom);
 const D: Event = Event::Drops(Switch::Hom);
 const Z: Event = Event::Rises(Switch::Z);
-const NOT_R: Event = Event::Rises(Switch::Not);
 const NOT_D: Event = Event::Drops(Switch::Not);
 
 struct Row {
@@ -82,11 +81,12 @@ const TABLE: [Row; 4] = [
     },
 ];
 
-/// "Method 17 is −F until NOT rises, then +S until NOT drops"
-const METHOD_17: &[Leg] = &[Leg(-1, F, NOT_R), Leg(1, S, NOT_D)];
+/// "Method 17 is −F until NOT rises, then +S until NOT drops"; and later: "A leg of request (i) that awaits that limit's rise
+/// ends by it being on, with no movement needed; a drop is unchanged."
+const METHOD_17: &[Leg] = &[Leg(-1, F, L), Leg(1, S, NOT_D)];
 
 /// "Method 1 is 17 with a third leg, +S until Z rises."
-const METHOD_1: &[Leg] = &[Leg(-1, F, NOT_R), Leg(1, S, NOT_D), Leg(1, S, Z)];
+const METHOD_1: &[Leg] = &[Leg(-1, F, L), Leg(1, S, NOT_D), Leg(1, S, Z)];
 
 #[derive(Clone, Copy, Debug, PartialEq, Eq, PartialOrd, Ord)]
 pub enum Way {
@@ -114,6 +114,20 @@ pub fn all_routes() -> Vec<(u32, Way)> {
         both.flat_map(|(method, on)| routes(method, on).into_iter().map(move |route| (method, route.way))).collect();
     all.dedup(); // a sole route is allowed either way
     all
+}
+
+/// The legs of one of them; none where there is no such route.
+pub fn legs(method: u32, way: Way) -> Vec<Leg> {
+    let mut both = [false, true].into_iter().flat_map(|on| routes(method, on));
+    both.find(|route| route.way == way).map(|route| route.legs().collect()).unwrap_or_default()
+}
+
+/// Every leg that a limit ends with an error, by its place in its route: all but a's first, which it moves to b's second, and
+/// those that await it.
+pub fn failing_legs() -> Vec<(u32, Way, usize)> {
+    let first = |way| matches!(way, Way::C | Way::OnLimit | Way::Sole);
+    let places = |(method, way)| (0..legs(method, way).len()).map(move |place| (method, way, place));
+    all_routes().into_iter().flat_map(places).filter(|&(_, way, place)| place > 0 || first(way)).collect()
 }
 
 #[derive(Clone, Copy)]
@@ -202,12 +216,12 @@ impl Leg {
         turned(self.limit())
     }
 
-    /// "with or without movement"
-    fn meets_limit(&self, before: &Moment, now: &Moment) -> bool {
-        now.switches.turned(&before.switches, self.limit(), true)
+    /// "whenever it is on": be it that it was on all the time, or came on during halt.
+    fn meets_limit(&self, now: &Moment) -> bool {
+        now.switches.on(self.limit())
     }
 
-    /// The switch that the event turns, and its level then.
+    /// The switch that the event is about, and its level then.
     pub fn awaits(&self) -> (Switch, bool) {
         match self.2 {
             Event::Rises(switch) => (switch, true),
@@ -218,7 +232,10 @@ impl Leg {
 
     fn event_counts(&self, before: &Moment, now: &Moment) -> bool {
         let (switch, level) = self.awaits();
-        now.switches.turned(&before.switches, switch, level) && (self.2 == L || self.moves(before, now))
+        match self.2 {
+            L => self.meets_limit(now),
+            _ => now.switches.turned(&before.switches, switch, level) && self.moves(before, now),
+        }
     }
 
     pub fn signed_speed(&self, sheet: &Sheet) -> i32 {
@@ -268,13 +285,12 @@ impl Route {
                 return Some(Ending::AnotherRoute);
             }
         }
-        // "The leg's event is tried first; if it counts, no limit is looked at in that tick."
+        // "The leg's event is tried first; if it counts, no limit is looked at in that tick." The awaited limit is an event.
         if leg.event_counts(before, now) {
             return Some(Ending::Event);
         }
-        // "The awaited switch's rise is no homing error."
-        if leg.meets_limit(before, now) && leg.2 != Event::Rises(leg.limit()) {
-            // "a's first stretch has no counting limit rise before its end"
+        if leg.meets_limit(now) {
+            // A's first stretch has no counting limit before its end.
             let first_of_a = place == 0 && self.way == Way::A;
             return Some(if first_of_a { Ending::AnotherRoute } else { Ending::Error });
         }
@@ -284,7 +300,7 @@ impl Route {
     /// Cuts the ticks after the start into one stretch a leg, each ending at its first counting event. Nothing is returned
     /// where the ticks are those of another route.
     fn cut(&self, ticks: &[Moment]) -> Option<Homing> {
-        let mut from = 1; // the start tick "counts no event"
+        let mut from = 1; // the start tick "counts no event", and a limit counts "after the start tick"
         for (place, leg) in self.legs().enumerate() {
             let stretch = (from..ticks.len())
                 .find_map(|at| self.ending(place, &leg, &ticks[at - 1], &ticks[at]).map(|ending| (at, ending)));

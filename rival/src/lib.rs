@@ -1,6 +1,6 @@
 //! A rival of the show axis: the same answers by a second way.
 //!
-//! It is written from the paper (01) and the line layout alone. Where the paper offers two tellings of one rule it takes the
+//! It is written from the papers (01, 02) and the line layout alone. Where they offer two tellings of one rule it takes the
 //! one about the whole list: the sheet in force is read from the recorded words, and homed, homing error and the running leg
 //! from the recorded ticks since the latest homing start, cut into one stretch a leg. No homing phase is kept.
 

@@ -16,6 +16,7 @@ pub struct Tally {
     axis: Axis,
     /// Those of the tick before, which the rival keeps only while it records for homing.
     switches: Switches,
+    stretch: Stretch,
     /// The refusal of the word before and the kind that was due then.
     refused: Option<(Refusal, u32)>,
     /// A takeover since the last tick.
@@ -23,10 +24,26 @@ pub struct Tally {
     counts: BTreeMap<String, u64>,
 }
 
+/// The running leg so far.
+#[derive(Clone, Copy, Default)]
+struct Stretch {
+    /// A tick was not halted, so something could count.
+    tried: bool,
+    /// The limit behind was on in every tick, from the one in which the leg began.
+    behind: bool,
+}
+
 impl Default for Tally {
     fn default() -> Tally {
         let counts = needed::names().into_iter().map(|name| (name, 0)).collect();
-        Tally { axis: Axis::default(), switches: Switches::default(), refused: None, taken_over: false, counts }
+        Tally {
+            axis: Axis::default(),
+            switches: Switches::default(),
+            stretch: Stretch::default(),
+            refused: None,
+            taken_over: false,
+            counts,
+        }
     }
 }
 
@@ -49,6 +66,7 @@ impl Tally {
                 self.saw("line: fresh");
                 self.axis = Axis::default();
                 self.switches = Switches::default();
+                self.stretch = Stretch::default();
                 self.refused = None;
                 self.taken_over = false;
             }

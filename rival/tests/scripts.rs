@@ -116,13 +116,30 @@ fn mirrored(ticks: Ticks) -> Vec<(u16, i32, String)> {
     ticks.iter().map(|&(control, position, switches)| (control, -position, turned(switches))).collect()
 }
 
+const ON: u16 = 0x001F;
+const HALTED: u16 = 0x011F;
+const HOMED: Shown = (0, 0x1737);
+const ERROR: Shown = (0, 0x2637);
+
+/// What is shown at the end of the ticks by this method; with bit 11 where a limit is on.
+fn shows(method: i64, ticks: Ticks, (speed, status): Shown) {
+    let (_, position, switches) = ticks[ticks.len() - 1];
+    let status = if switches.starts_with("--") { status } else { status | 0x0800 };
+    let expected = format!("tick 0 torque 0 speed {speed} position {position} status {status:04X} mode 6 alarm 0");
+    assert_eq!(homing(method, ticks), expected, "method {method}, {ticks:?}");
+}
+
+/// The same for the ticks as they stand, and mirrored for the turned method.
+fn both_show((method, turned): (i64, i64), ticks: Ticks, (speed, status): Shown) {
+    shows(method, ticks, (speed, status));
+    let mirrored = mirrored(ticks);
+    let ticks: Vec<(u16, i32, &str)> = mirrored.iter().map(|(control, at, switches)| (*control, *at, &switches[..])).collect();
+    shows(turned, &ticks, (-speed, status));
+}
+
 /// Each list is played as it stands by 17 and 1, mirrored by 18 and 2. Speeds are those of the last tick under 17 and 1.
 #[test]
 fn homing_on_the_limits() {
-    const ON: u16 = 0x001F;
-    const HALTED: u16 = 0x011F;
-    const HOMED: Shown = (0, 0x1737);
-    const ERROR: Shown = (0, 0x2637);
     const FIRST: Shown = (-20000, 0x0237);
     const LATER: Shown = (1000, 0x0237);
     let lists: &[(Ticks, Shown, Shown)] = &[
@@ -135,36 +152,79 @@ fn homing_on_the_limits() {
         // A Z in the tick of the drop is used up; one without movement does not count.
         (&[(ON, 0, "-N--"), (ON, 4, "---Z"), (ON, 5, "---Z")], HOMED, LATER),
         (&[(ON, 0, "-N--"), (ON, 4, "----"), (ON, 4, "---Z")], HOMED, LATER),
-        // The awaited rise without movement, coasting or halted is lost, and no error; after a drop it may come again.
-        (&[(ON, 0, "----"), (ON, 0, "-N--")], FIRST, FIRST),
-        (&[(ON, 0, "----"), (ON, 3, "-N--"), (ON, -3, "-N--")], FIRST, FIRST),
-        (&[(ON, 0, "----"), (HALTED, -3, "-N--"), (ON, -6, "-N--")], FIRST, FIRST),
-        (&[(ON, 0, "----"), (ON, 0, "-N--"), (ON, -1, "----"), (ON, -2, "-N--"), (ON, 1, "----")], HOMED, LATER),
+        // The awaited limit needs no movement, and counts after a halt if it is still on.
+        (&[(ON, 0, "----"), (ON, 0, "-N--")], LATER, LATER),
+        (&[(ON, 0, "----"), (ON, 3, "-N--")], LATER, LATER),
+        (&[(ON, 0, "----"), (HALTED, -3, "-N--"), (ON, -3, "-N--")], LATER, LATER),
+        (&[(ON, 0, "----"), (HALTED, -3, "-N--"), (ON, -6, "----")], FIRST, FIRST),
+        (&[(ON, 0, "----"), (ON, 3, "-N--"), (ON, 4, "----")], HOMED, LATER),
         // The drop while coasting, without movement or halted.
         (&[(ON, 0, "----"), (ON, -9, "-N--"), (ON, -10, "----")], LATER, LATER),
         (&[(ON, 0, "-N--"), (ON, 0, "----")], LATER, LATER),
         (&[(ON, 0, "-N--"), (HALTED, 1, "----"), (ON, 2, "----")], LATER, LATER),
         // The wrong switches: POT against travel, HOM, Z.
-        (&[(ON, 0, "----"), (ON, -9, "P---"), (ON, -10, "--HZ"), (ON, -11, "----")], FIRST, FIRST),
+        (&[(ON, 0, "----"), (ON, -9, "P---"), (ON, -10, "P-HZ"), (ON, -11, "P---")], FIRST, FIRST),
         (&[(ON, 0, "-NH-"), (ON, 4, "-N--"), (ON, 5, "-NHZ")], LATER, LATER),
         // The limit ahead in a later leg is an error, with or without movement, but not beside the event.
         (&[(ON, 0, "-N--"), (ON, 0, "PN--"), (ON, 3, "P---")], ERROR, ERROR),
         (&[(ON, 0, "----"), (ON, -9, "-N--"), (ON, -8, "PN--"), (ON, -7, "----")], ERROR, ERROR),
         (&[(ON, 0, "-N--"), (ON, 4, "P---"), (ON, 5, "----")], HOMED, LATER),
         (&[(ON, 0, "-N--"), (ON, 4, "----"), (ON, 5, "P---"), (ON, 6, "---Z")], HOMED, ERROR),
+        // It is on already as the leg begins.
+        (&[(ON, 0, "PN--"), (ON, 1, "PN--")], ERROR, ERROR),
+        (&[(ON, 0, "PN--"), (ON, 1, "-N--")], LATER, LATER),
+        (&[(ON, 0, "PN--"), (ON, 1, "P---")], HOMED, LATER),
+        (&[(ON, 0, "P---"), (ON, -1, "PN--"), (ON, 0, "PN--")], ERROR, ERROR),
+        (&[(ON, 0, "-N--"), (ON, 4, "P---"), (ON, 5, "P---")], HOMED, ERROR),
+        (&[(ON, 0, "-N--"), (ON, 4, "P---"), (ON, 5, "P--Z")], HOMED, HOMED),
+        (&[(ON, 0, "-N--"), (ON, 4, "P---"), (HALTED, 5, "P--Z"), (ON, 6, "P--Z")], HOMED, ERROR),
     ];
     for &(ticks, by_17, by_1) in lists {
-        let turned = mirrored(ticks);
-        let turned: Vec<(u16, i32, &str)> =
-            turned.iter().map(|(control, at, switches)| (*control, *at, &switches[..])).collect();
-        for (method, ticks, sign, (speed, status)) in
-            [(17, ticks, 1, by_17), (1, ticks, 1, by_1), (18, &turned[..], -1, by_17), (2, &turned[..], -1, by_1)]
-        {
-            let (_, position, switches) = ticks[ticks.len() - 1];
-            let status = if switches.starts_with("--") { status } else { status | 0x0800 };
-            let expected =
-                format!("tick 0 torque 0 speed {} position {position} status {status:04X} mode 6 alarm 0", sign * speed);
-            assert_eq!(homing(method, ticks), expected, "method {method}, {ticks:?}");
+        both_show((17, 18), ticks, by_17);
+        both_show((1, 2), ticks, by_1);
+    }
+}
+
+/// Each list is played as it stands by these methods, mirrored by those of the turned routes.
+#[test]
+fn parked_on_the_limit() {
+    const FIRST: Shown = (20000, 0x0237);
+    const TURNED: Shown = (-20000, 0x0237);
+    const BACK: Shown = (-1000, 0x0237);
+    let lists: &[(&[i64], Ticks, Shown)] = &[
+        // On at the start: a's first leg turns in the next tick, with any movement. HOM on, or Z awaited: an error.
+        (&[23, 24, 25, 26], &[(ON, 0, "P---")], FIRST),
+        (&[23, 24, 25, 26], &[(ON, 0, "P---"), (ON, 0, "P---")], TURNED),
+        (&[23, 24, 25, 26], &[(ON, 0, "P---"), (ON, -3, "P---")], TURNED),
+        (&[23, 24, 25, 26], &[(ON, 0, "P---"), (HALTED, 3, "P---"), (ON, 3, "P---")], TURNED),
+        (&[25, 26], &[(ON, 0, "P-H-"), (ON, 0, "P-H-")], ERROR),
+        (&[23, 24], &[(ON, 0, "-NH-"), (ON, 0, "-NH-")], ERROR),
+        (&[34], &[(ON, 0, "P---"), (ON, 3, "P---")], ERROR),
+        // On in the start tick alone, or in halted ones alone, or behind: nothing.
+        (&[23, 24, 25, 26], &[(ON, 0, "P---"), (ON, 0, "----")], FIRST),
+        (&[34], &[(ON, 0, "P---"), (ON, 0, "----"), (ON, 1, "---Z")], HOMED),
+        (&[23, 24, 25, 26], &[(ON, 0, "----"), (HALTED, 2, "P---"), (ON, 3, "----")], FIRST),
+        (&[23, 24, 25, 26], &[(ON, 0, "-N--"), (ON, 0, "-N--"), (ON, 1, "-N--")], FIRST),
+        (&[23, 24], &[(ON, 0, "P-H-"), (ON, -1, "P-H-")], BACK),
+        (&[34], &[(ON, 0, "-N--"), (ON, 1, "-N--"), (ON, 2, "-N-Z")], HOMED),
+        // Come on in halt: it counts afterwards.
+        (&[23, 24, 25, 26], &[(ON, 0, "----"), (HALTED, 2, "P---"), (ON, 2, "P---")], TURNED),
+        (&[34], &[(ON, 0, "----"), (HALTED, 2, "P---"), (ON, 1, "P---")], ERROR),
+        // The event comes first.
+        (&[23, 24, 26], &[(ON, 0, "P---"), (ON, 1, "P-H-")], BACK),
+        (&[26], &[(ON, 0, "P-H-"), (ON, 1, "P---")], HOMED),
+        (&[34], &[(ON, 0, "P---"), (ON, 1, "P--Z")], HOMED),
+        // Still on as b's third leg begins.
+        (&[23, 25, 26], &[(ON, 0, "P---"), (ON, 0, "P---"), (ON, -1, "P-H-"), (ON, 0, "P-H-")], ERROR),
+        (&[24], &[(ON, 0, "P---"), (ON, 0, "P-H-"), (ON, -1, "P---"), (ON, 0, "P---")], ERROR),
+        (&[23, 25], &[(ON, 0, "P---"), (ON, 0, "P---"), (ON, -1, "P-H-"), (ON, 0, "P---")], BACK),
+        (&[26], &[(ON, 0, "P---"), (ON, 0, "P---"), (ON, -1, "P-H-"), (ON, 0, "P---")], HOMED),
+        (&[24], &[(ON, 0, "P---"), (ON, 0, "P-H-"), (ON, -1, "P---"), (ON, 0, "P-H-")], HOMED),
+        (&[26], &[(ON, 0, "P---"), (ON, 0, "P---"), (ON, -1, "P-H-"), (HALTED, 0, "P---"), (ON, 0, "P---")], ERROR),
+    ];
+    for &(methods, ticks, shown) in lists {
+        for &method in methods {
+            both_show((method, if method == 34 { 33 } else { method + 4 }), ticks, shown);
         }
     }
 }

@@ -112,18 +112,20 @@ pub fn start(method: u8, switches: u8) -> u8 {
     enter(if on { row + ON } else { row })
 }
 
-/// The phase after a later tick that keeps homing and is not halted. A limit ahead that the leg awaits is no failure.
+/// The phase after a later tick that keeps homing and is not halted. A limit ahead counts as long as it is on; a leg that awaits it ends,
+/// and is the last of no route.
 pub fn step(place: u8, moved: i32, before: u8, now: u8) -> u8 {
     let leg = Leg::at(place);
-    let rises = now & !before;
     let along = if leg.forward() { moved > 0 } else { moved < 0 };
-    let turns = if leg.0 & DROP != 0 { before & !now } else { rises };
+    let turns = if leg.0 & DROP != 0 { before & !now } else { now & !before };
     if along && turns & leg.0 & SWITCH != 0 {
         return enter(place + 1);
     }
     let ahead = if leg.forward() { POT } else { NOT };
-    if rises & ahead & !leg.0 == 0 {
+    if now & ahead == 0 {
         place
+    } else if leg.0 & ahead != 0 {
+        place + 1
     } else if place & (NO_TURN | 15) == 0 {
         place + TURN
     } else {

@@ -153,9 +153,21 @@ further =
     ∷ homes 1 (start 100 NOT ∷ at 102 off ∷ at 103 Z ∷ [])
     ∷ homes 2 (start 100 off ∷ at 110 POT ∷ at 108 off ∷ at 107 Z ∷ [])
     ∷ not (homes 17 (start 100 off ∷ at 90 NOT ∷ at 88 off ∷ []))
-    -- the awaited limit without movement leaves the leg running, with bit 11; the other one in the next leg is an error, bit 13
-    ∷ sameWords (map status (after (enabled-with 1 17) (start 100 off ∷ at 100 NOT ∷ []))) (0x0237 ∷ 0x0A37 ∷ [])
+    -- the other limit in the next leg is an error, bit 13
     ∷ sameWords (map status (after (enabled-with 1 17) (start 100 NOT ∷ at 102 (switchesIn 3) ∷ []))) (0x0A37 ∷ 0x2E37 ∷ [])
+    -- 02, (ii): parked on the limit ahead, 23 and 27 turn in the first tick after the start, and 33 fails
+    ∷ sameCounts (map speed (after enabled (start 100 POT ∷ at 100 POT ∷ []))) (pos 20000 ∷ minus 20000 ∷ [])
+    ∷ sameCounts (map speed (after (enabled-with 1 27) (start 100 NOT ∷ at 100 NOT ∷ []))) (minus 20000 ∷ pos 20000 ∷ [])
+    ∷ sameWords (map status (after (enabled-with 1 33) (start 100 NOT ∷ at 100 NOT ∷ []))) (0x0A37 ∷ 0x2E37 ∷ [])
+    -- the awaited limit ends its leg without movement; but not in the start tick, which skips it or not
+    ∷ sameCounts (map speed (after (enabled-with 1 17) (start 100 off ∷ at 100 NOT ∷ []))) (minus 20000 ∷ pos 1000 ∷ [])
+    ∷ sameCounts (map speed (after (enabled-with 1 18) (start 100 off ∷ at 100 POT ∷ []))) (pos 20000 ∷ minus 1000 ∷ [])
+    ∷ sameCounts (map speed (after (enabled-with 1 18) (start 100 POT ∷ at 100 POT ∷ []))) (minus 1000 ∷ minus 1000 ∷ [])
+    -- a limit that came on in halt counts when halt ends
+    ∷ sameCounts (map speed (after enabled (start 100 off ∷ halted 100 POT ∷ halted 100 POT ∷ at 100 POT ∷ []))) (pos 20000 ∷ pos 0 ∷ pos 0 ∷ minus 20000 ∷ [])
+    ∷ homes 23 (start 100 off ∷ halted 100 POT ∷ at 100 POT ∷ at 95 HOM ∷ at 97 off ∷ at 96 HOM ∷ at 94 off ∷ [])
+    -- the event and the limit in one tick: the event
+    ∷ homes 23 (start 100 POT ∷ at 101 (switchesIn 5) ∷ at 99 off ∷ [])
     -- not homed: the edge lost in halt
     ∷ not (homes 33 (start 100 off ∷ halted 99 Z ∷ at 98 Z ∷ []))
     -- bit 4 clear in the tick of the event, and for one tick before it
@@ -172,7 +184,7 @@ methodIn (Set s) = s .method
 
 abbrev started : Since → Bool
 started never = false
-started (begun home views) = true
+started (begun switches views) = true
 
 -- closed lists at which a wrong reading differs: the latest takeover counts; bit 4 set all along is no start, its rise is one; a
 -- takeover forgets the start

@@ -118,7 +118,7 @@ knownFrom k (e ∷ es) = knownFrom (next k e) es
 abbrev pub known : List Event → Known
 known es = knownFrom atFirst es
 
--- demand 3: "the ticks from the latest homing start up to it spell a route of the sheet's method"
+-- demand 3's homed: the ticks from the latest homing start on spell a route of the sheet's method
 abbrev pub CompletesSince : Active → Since → Type 0
 CompletesSince Nothing since = ⊥
 CompletesSince (Set s) never = ⊥

@@ -41,6 +41,12 @@ homeAndNegative = switchesIn 6
 abbrev bothLimits : Switches
 bothLimits = switchesIn 3
 
+abbrev indexAndPositive : Switches
+indexAndPositive = switchesIn 9
+
+abbrev indexAndNegative : Switches
+indexAndNegative = switchesIn 10
+
 -- a later tick: its position and switches, with bit 4 set and bit 8 clear
 pub data Tick : Type 0 where
   at : ℕ → Switches → Tick
@@ -94,10 +100,11 @@ abbrev complete : List Example
 complete =
     -- route a
     start 23 100 off (at 110 home ∷ at 108 off ∷ [])
-    -- route b: the limit rises while the axis stands still
+    -- route b: the limit comes on while the axis stands still
     ∷ start 23 100 off (at 120 off ∷ at 120 positive ∷ at 115 home ∷ at 117 off ∷ at 116 home ∷ at 114 off ∷ [])
-    -- a limit rise in the tick of a's event is not looked at
+    -- a limit in the tick of a's event is not looked at
     ∷ start 23 100 off (at 110 homeAndPositive ∷ at 108 off ∷ [])
+    ∷ start 23 100 positive (at 101 homeAndPositive ∷ at 99 off ∷ [])
     -- route c
     ∷ start 23 100 home (at 95 off ∷ [])
     -- 24 to 26: a, b, c
@@ -134,6 +141,19 @@ complete =
     ∷ start 1 100 negative (at 102 off ∷ at 103 index ∷ [])
     ∷ start 2 100 off (at 110 positive ∷ at 108 off ∷ at 107 index ∷ [])
     ∷ start 2 100 positive (at 98 off ∷ at 97 index ∷ [])
+    -- 02, (ii): parked on the limit ahead, the axis turns in the first tick after the start
+    ∷ start 23 100 positive (at 100 positive ∷ at 95 home ∷ at 97 off ∷ at 96 home ∷ at 94 off ∷ [])
+    ∷ start 27 100 negative (at 100 negative ∷ at 105 home ∷ at 103 off ∷ at 104 home ∷ at 106 off ∷ [])
+    -- on in the start tick alone, it counts nothing; nor does the limit behind, on all along
+    ∷ start 23 100 positive (at 101 off ∷ at 110 home ∷ at 108 off ∷ [])
+    ∷ start 34 100 negative (at 101 negative ∷ at 102 indexAndNegative ∷ [])
+    -- the event goes first
+    ∷ start 33 100 negative (at 99 indexAndNegative ∷ [])
+    -- the awaited limit ends its leg without movement, and against it
+    ∷ start 17 100 off (at 100 negative ∷ at 102 off ∷ [])
+    ∷ start 18 100 off (at 100 positive ∷ at 98 off ∷ [])
+    ∷ start 17 100 off (at 101 negative ∷ at 103 off ∷ [])
+    ∷ start 2 100 off (at 100 positive ∷ at 98 off ∷ at 97 index ∷ [])
     -- 33 and 34, whatever HOM is; 35 by the start tick alone
     ∷ start 33 100 off (at 99 index ∷ [])
     ∷ start 33 100 home (at 99 index ∷ [])
@@ -162,9 +182,18 @@ incomplete =
     -- on the limits: a drop while still coasting
     ∷ start 17 100 off (at 90 negative ∷ at 88 off ∷ [])
     ∷ start 18 100 off (at 110 positive ∷ at 112 off ∷ [])
-    -- a rise without movement is lost, and is no error: the next one counts as ever, and was not met
-    ∷ start 17 100 off (at 100 negative ∷ at 102 off ∷ [])
-    ∷ start 2 100 off (at 100 positive ∷ at 98 off ∷ at 97 index ∷ [])
+    -- a drop without movement is lost: it is no level
+    ∷ start 17 100 negative (at 100 off ∷ at 102 off ∷ [])
+    ∷ start 18 100 positive (at 100 off ∷ at 98 off ∷ [])
+    -- parked on the limit ahead: 23 does not go on along a, and 33 and 34 fail
+    ∷ start 23 100 positive (at 105 positive ∷ at 110 home ∷ at 108 off ∷ [])
+    ∷ start 33 100 negative (at 99 negative ∷ at 98 indexAndNegative ∷ [])
+    ∷ start 34 100 positive (at 101 positive ∷ at 102 indexAndPositive ∷ [])
+    -- the limit ahead is still on when b's third leg begins
+    ∷ start 24 100 off (at 120 positive ∷ at 115 homeAndPositive ∷ at 112 positive ∷ at 113 positive ∷ at 114 homeAndPositive ∷ [])
+    -- it is on from the tick that ends the second leg of 1 and 2
+    ∷ start 1 100 negative (at 102 positive ∷ at 103 positive ∷ at 104 indexAndPositive ∷ [])
+    ∷ start 2 100 positive (at 98 negative ∷ at 97 negative ∷ at 96 indexAndNegative ∷ [])
     -- the wrong switch
     ∷ start 17 100 off (at 90 positive ∷ at 92 off ∷ [])
     ∷ start 18 100 negative (at 98 off ∷ [])

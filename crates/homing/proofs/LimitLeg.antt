@@ -1,12 +1,11 @@
--- Route b's first leg is a's first, run to the limit ahead; and its event counts exactly where the limit does in a's, which awaits another
--- switch. So the tick that turns (`Turns`) is the one that ends b's first segment.
+-- Route b's first leg is a's first, run to the limit ahead; and its event counts exactly where the limit does in a's. So the tick that turns
+-- (`Turns`) is the one that ends b's first segment; and where a leg awaits the limit ahead, that limit is never its error.
 -- Assumes nothing.
 use mathlib.Core.Path.{_≡_, refl}
-use mathlib.Core.Bool.{Bool, true, false}
 use mathlib.Core.List.{List, [], _∷_}
 use mathlib.Core.Option.{Option, none, some}
 use Rattle.legs.specs.Legs.{Leg}
-use Rattle.legs.specs.Events.{View, isAhead, eventCounts, limitCounts}
+use Rattle.legs.specs.Events.{View, eventCounts, limitCounts}
 use Rattle.legs.specs.Routes.{Row, rowOf, toLimit}
 use Rattle.legs.proofs.Computed.{listed}
 
@@ -31,14 +30,6 @@ pub first-legs : listed (λ m. firstB (rowOf m)) 23 8 ≡ listed (λ m. limitOf 
 unfolding rowOf
 first-legs = refl
 
-abbrev aheadIn : Option Leg → Bool
-aheadIn none = true
-aheadIn (some l) = isAhead (l .switch)
-
-pub first-switches : listed (λ m. aheadIn (firstA (rowOf m))) 23 8 ≡ listed (λ m. false) 23 8
-unfolding rowOf
-first-switches = refl
-
-pub limit-counts : (l : Leg) (v : View) → isAhead (l .switch) ≡ false → eventCounts (toLimit l) v ≡ limitCounts l v
+pub limit-counts : (l : Leg) (v : View) → eventCounts (toLimit l) v ≡ limitCounts l v
 unfolding eventCounts limitCounts
-limit-counts l v other = rw other
+limit-counts l v = refl

@@ -23,8 +23,8 @@ pub record Cut (Before Last : View → Type 0) (After : List View → Type 0) (v
   pub ends : Last end
   pub then : After rest
 
--- a tick of leg l's segment before its end: it does not idle homing, the leg's event does not count, and no limit rise counts, which
--- would set the error or, in a's first leg, where there is a b, turn to it
+-- a tick of leg l's segment before its end: it does not idle homing, the leg's event does not count, and no limit counts, which
+-- would set the error or, in a's first leg, where there is a b, turn to it. (Where the leg awaits that limit, the two are one.)
 pub record Waits (l : Leg) (v : View) : Type 0 where
   pub kept : So (v .kept)
   pub uncounted : eventCounts l v ≡ false
@@ -35,7 +35,7 @@ pub record Ends (l : Leg) (v : View) : Type 0 where
   pub kept : So (v .kept)
   pub counted : So (eventCounts l v)
 
--- the tick that ends b's first segment, where l is a's first leg: it does not idle homing, l's event does not count, a limit rise does
+-- the tick that ends b's first segment, where l is a's first leg: it does not idle homing, l's event does not count, a limit does
 pub record Turns (l : Leg) (v : View) : Type 0 where
   pub kept : So (v .kept)
   pub uncounted : eventCounts l v ≡ false
@@ -55,7 +55,8 @@ abbrev pub CompletesTurn : List Leg → Option (List Leg) → List View → Type
 CompletesTurn [] t vs = ⊥
 CompletesTurn (l ∷ ls) t vs = Cut (Waits l) (Turns l) (CompletesAfterTurn t) vs
 
--- "a or b with HOM off, c with it on", and with a limit for HOM in 02's methods: the plan has either. Where there is no b, nothing turns.
+-- "a or b with HOM off, c with it on", and with a limit for HOM in 02's methods: the plan's main route is a or c. Where it has no turn, nothing
+-- turns.
 abbrev pub CompletesRoute : Plan → List View → Type 0
 CompletesRoute p vs = Completes (p .main) vs ⊎ CompletesTurn (p .main) (p .turn) vs
 

@@ -20,7 +20,7 @@ entered route = cond (eqb route 0) Homed (Running route)
 abbrev pub limitAt : ℕ → ℕ → Phase
 limitAt method route = cond (turnsIn route && not (eqb (turnRoute method) 0)) (Running (turnRoute method)) Failed
 
--- a tick in a route's first leg
+-- a tick in the running leg, the first of the route that is left
 unfoldable pub runningOf : ℕ → ℕ → View → Phase
 runningOf method route v =
     cond (v .kept)

@@ -1,13 +1,13 @@
--- 01, "Homing routes": when a leg's event counts in a tick, and when a limit does. Both compare the remembered switches with the tick's.
+-- 01, "Homing routes", and 02, (i) and (ii): when a leg's event counts in a tick, and when a limit does.
 -- Assumes nothing.
 use Prim.Native.Nat.{ℕ}
-use mathlib.Core.Bool.{Bool, true, false, not, _&&_, _||_}
+use mathlib.Core.Bool.{Bool, true, false, not, _&&_}
 use Rattle.counts.specs.Bit.{bitOf}
 use Rattle.counts.specs.declared.Movement.{Movement}
 use Rattle.counts.specs.declared.Movement.the-variants.{Backward, Still, Forward}
 use Rattle.legs.specs.declared.events.Switches.{Switches}
 use Rattle.legs.specs.declared.events.Seen.{Seen}
-use Rattle.legs.specs.Legs.{Switch, Home, Index, LimitAhead, LimitBehind, Edge, Rise, Drop, Leg}
+use Rattle.legs.specs.Legs.{Switch, Home, Index, LimitAhead, LimitBehind, Trigger, Rise, Drop, On, Leg}
 
 abbrev pub allOff : Switches
 allOff = record { positive = false; negative = false; home = false; index = false }
@@ -39,10 +39,8 @@ along forward Forward = forward
 abbrev pub rises : Bool → Bool → Bool
 rises before now = not before && now
 
--- "A rise or drop compares with the remembered switch."
-abbrev pub edgeOf : Edge → Bool → Bool → Bool
-edgeOf Rise before now = rises before now
-edgeOf Drop before now = rises now before
+abbrev pub drops : Bool → Bool → Bool
+drops before now = rises now before
 
 -- the limit "in travel direction": POT ahead of a forward leg, NOT ahead of a backward one
 abbrev pub limitAhead : Bool → Switches → Bool
@@ -55,31 +53,23 @@ switchOf Index forward s = s .index
 switchOf LimitAhead forward s = limitAhead forward s
 switchOf LimitBehind forward s = limitAhead (not forward) s
 
--- the switch that a leg awaits has the leg's edge
-abbrev pub edgeSeen : Leg → View → Bool
-edgeSeen l v = edgeOf (l .edge) (switchOf (l .switch) (l .forward) (v .before)) (switchOf (l .switch) (l .forward) (v .now))
+-- the switch that a leg awaits
+abbrev pub awaited : Leg → Switches → Bool
+awaited l s = switchOf (l .event .switch) (l .forward) s
 
--- the movement is as the leg's event asks
-abbrev pub movementFits : Leg → View → Bool
-movementFits l v = not (l .moving) || along (l .forward) (v .movement)
+-- moved: the movement has the leg's sign. "A rise or drop compares with the remembered switch" and counts by movement, a limit's "as HOM's do"
+-- (02, (i)); but a leg that awaits the limit ahead "ends by it being on, with no movement needed" (02, (ii)).
+abbrev pub happens : Trigger → Bool → Bool → Bool → Bool
+happens Rise moved before now = moved && rises before now
+happens Drop moved before now = moved && drops before now
+happens On moved before now = now
 
--- the limit ahead rises
-abbrev pub limitRises : Bool → View → Bool
-limitRises forward v = rises (limitAhead forward (v .before)) (limitAhead forward (v .now))
-
--- the leg's event counts: "With bit 8 (halt) set nothing counts. Otherwise R, D and Z count only if [the movement] has the leg's sign", and so
--- do A and B
+-- the leg's event counts: "With bit 8 (halt) set nothing counts."
 unfoldable pub eventCounts : Leg → View → Bool
-eventCounts l v = not (v .halted) && (movementFits l v && edgeSeen l v)
+eventCounts l v =
+    not (v .halted) && happens (l .event .trigger) (along (l .forward) (v .movement)) (awaited l (v .before)) (awaited l (v .now))
 
--- the switch that a leg awaits is the limit ahead
-abbrev pub isAhead : Switch → Bool
-isAhead Home = false
-isAhead Index = false
-isAhead LimitAhead = true
-isAhead LimitBehind = false
-
--- "A limit rise in travel direction, with or without movement"; "The awaited switch's rise is no homing error" (02, (i)); and in a halted
--- tick nothing counts. That the event of the same tick goes first is said where both are asked (`advance`, `runningOf`).
+-- "after the start tick and outside halt, a limit in the travel direction counts whenever it is on" (02, (ii)). "The leg's own event still comes
+-- first" is said where both are asked (`Ends`, `advance`, `runningOf`); so a leg that awaits that limit ends by it, and it is "no homing error".
 unfoldable pub limitCounts : Leg → View → Bool
-limitCounts l v = not (v .halted) && (not (isAhead (l .switch)) && limitRises (l .forward) v)
+limitCounts l v = not (v .halted) && limitAhead (l .forward) (v .now)

@@ -2,17 +2,19 @@
 -- Assumes nothing.
 use mathlib.Core.Bool.{Bool}
 
--- what a leg's event looks at; LimitAhead is the limit in travel direction, LimitBehind the other
+-- what an event looks at: HOM, Z, the limit in travel direction, and the other limit
 pub data Switch : Type 0 where
   Home Index LimitAhead LimitBehind : Switch
 
-pub data Edge : Type 0 where
-  Rise Drop : Edge
+-- what the switch does: it rises or drops, or it is on
+pub data Trigger : Type 0 where
+  Rise Drop On : Trigger
 
--- a leg: its direction and speed, and the event that ends it. moving: the event counts only with movement in the leg's direction
+pub record Event : Type 0 where
+  pub switch : Switch
+  pub trigger : Trigger
+
 pub record Leg : Type 0 where
   pub forward : Bool
   pub fast : Bool
-  pub switch : Switch
-  pub edge : Edge
-  pub moving : Bool
+  pub event : Event

@@ -7,7 +7,7 @@ use mathlib.Core.Option.{Option, none, some}
 use lib.Dec.{eqb}
 use Rattle.counts.specs.Between.{between}
 use Rattle.legs.specs.declared.events.Switches.{Switches}
-use Rattle.legs.specs.Legs.{Switch, Home, Index, LimitAhead, LimitBehind, Edge, Rise, Drop, Leg}
+use Rattle.legs.specs.Legs.{Switch, Home, Index, LimitAhead, LimitBehind, Trigger, Rise, Drop, On, Event, Leg}
 use Rattle.legs.specs.Routes.{Row, rowOf}
 
 -- the place of the limit ahead in a word of switches: POT is bit 0, NOT bit 1
@@ -20,15 +20,17 @@ switchPlace Index forward = 3
 switchPlace LimitAhead forward = aheadPlace forward
 switchPlace LimitBehind forward = cond forward 1 0
 
-abbrev edgeBit : Edge → ℕ
-edgeBit Rise = 0
-edgeBit Drop = 4
+abbrev triggerBit : Trigger → ℕ
+triggerBit Rise = 0
+triggerBit Drop = 4
+triggerBit On = 64
 
--- the byte of a leg: its switch's place in a word of switches (POT, NOT, HOM, Z), 4 more if it awaits the drop, 8 more if it goes forward, 16
--- more if it is fast. Every leg that runs has an event that counts by movement; b's first, which does not, gets no byte. No leg of the table
--- has the byte 0. So the bytes of a route spell its legs: computed over the table, `homing/proofs/Simulation.antt`.
+-- the byte of a leg: its switch's place in a word of switches (POT, NOT, HOM, Z), 4 more if it awaits the drop, 64 more if it awaits the
+-- level, 8 more if it goes forward, 16 more if it is fast; 32 is for the turn (`mainIn`). The bytes of a route spell its legs: computed over the
+-- table, `homing/proofs/Simulation.antt`.
 abbrev byteOf : Leg → ℕ
-byteOf l = switchPlace (l .switch) (l .forward) + edgeBit (l .edge) + cond (l .forward) 8 0 + cond (l .fast) 16 0
+byteOf l =
+    switchPlace (l .event .switch) (l .forward) + triggerBit (l .event .trigger) + cond (l .forward) 8 0 + cond (l .fast) 16 0
 
 -- 0 is a route with no leg
 abbrev pub routeNumber : List Leg → ℕ
@@ -82,15 +84,18 @@ startRoute method s = cond (skips method s) (skipRoute method) (mainRoute method
 abbrev pub skipBy : ℕ → ℕ
 skipBy method = cond (between 25 26 method || between 29 30 method) (turnRoute method / 256) (mainRoute method / 256)
 
--- of a route's number, its first leg: direction and speed, the edge that it awaits, and whether a limit turns it
+-- of a route's number, its first leg: direction and speed, what it awaits, and whether a limit turns it
 abbrev pub forwardIn : ℕ → Bool
 forwardIn route = eqb (route / 8 % 2) 1
 
 abbrev pub fastIn : ℕ → Bool
 fastIn route = eqb (route / 16 % 2) 1
 
-abbrev pub edgeIn : ℕ → Edge
+abbrev pub edgeIn : ℕ → Trigger
 edgeIn route = cond (eqb (route / 4 % 2) 1) Drop Rise
+
+abbrev pub triggerIn : ℕ → Trigger
+triggerIn route = cond (eqb (route / 64 % 2) 1) On (edgeIn route)
 
 abbrev pub turnsIn : ℕ → Bool
 turnsIn route = eqb (route / 32 % 2) 1
@@ -100,7 +105,9 @@ abbrev pub switchAt : Bool → ℕ → Switch
 switchAt forward place =
     cond (eqb place 3) Index (cond (eqb place 2) Home (cond (eqb place (aheadPlace forward)) LimitAhead LimitBehind))
 
+abbrev eventIn : ℕ → Event
+eventIn route = record { switch = switchAt (forwardIn route) (route % 4); trigger = triggerIn route }
+
 -- the first leg of a route that has one
 abbrev pub legFrom : ℕ → Leg
-legFrom route =
-    record { forward = forwardIn route; fast = fastIn route; switch = switchAt (forwardIn route) (route % 4); edge = edgeIn route; moving = true }
+legFrom route = record { forward = forwardIn route; fast = fastIn route; event = eventIn route }

@@ -1,4 +1,4 @@
--- 01, "Homing routes", and 02, (i): the table of routes, and the routes that a start allows.
+-- 01, "Homing routes", and 02, (i) and (ii): the table of routes, and the routes that a start allows.
 -- Assumes nothing.
 use Prim.Native.Nat.{ℕ}
 use mathlib.Core.Bool.{Bool, true, false, not, cond}
@@ -6,56 +6,44 @@ use mathlib.Core.List.{List, [], _∷_, map}
 use mathlib.Core.Option.{Option, none, some}
 use lib.Dec.{eqb}
 use Rattle.legs.specs.declared.events.Switches.{Switches}
-use Rattle.legs.specs.Legs.{Switch, Home, Index, LimitAhead, LimitBehind, Edge, Rise, Drop, Leg}
+use Rattle.legs.specs.Legs.{Home, Index, LimitAhead, LimitBehind, Rise, Drop, On, Event, Leg}
 
--- an event: the switch, its edge, and whether it counts only with movement in the leg's direction
-pub record Event : Type 0 where
-  pub switch : Switch
-  pub edge : Edge
-  pub moving : Bool
-
--- "R HOM rises, D HOM drops, L limit rise in travel direction, Z rises"
+-- "R HOM rises, D HOM drops, [...] Z rises"
 abbrev pub R : Event
-R = record { switch = Home; edge = Rise; moving = true }
+R = record { switch = Home; trigger = Rise }
 
 abbrev pub D : Event
-D = record { switch = Home; edge = Drop; moving = true }
-
-abbrev pub L : Event
-L = record { switch = LimitAhead; edge = Rise; moving = false }
+D = record { switch = Home; trigger = Drop }
 
 abbrev pub Z : Event
-Z = record { switch = Index; edge = Rise; moving = true }
+Z = record { switch = Index; trigger = Rise }
 
--- 02, (i): A the limit ahead rises, B the limit behind drops. "Those rises and drops count by movement, as HOM's do."
-abbrev pub A : Event
-A = record { switch = LimitAhead; edge = Rise; moving = true }
+-- L, 01's "limit rise in travel direction", by level (02, (ii)): "The routes [...] follow the level."
+abbrev pub L : Event
+L = record { switch = LimitAhead; trigger = On }
 
+-- B, the drop of the limit behind (02, (i)). A leg that awaits the limit ahead's rise awaits L: it "ends by it being on" (02, (ii)).
 abbrev pub B : Event
-B = record { switch = LimitBehind; edge = Drop; moving = true }
-
--- "A leg is direction, speed (F fast, S slow) and event"
-abbrev pub legOf : Bool → Bool → Event → Leg
-legOf forward fast e = record { forward = forward; fast = fast; switch = e .switch; edge = e .edge; moving = e .moving }
+B = record { switch = LimitBehind; trigger = Drop }
 
 abbrev pub +F : Event → Leg
-+F e = legOf true true e
++F e = record { forward = true; fast = true; event = e }
 
 abbrev pub +S : Event → Leg
-+S e = legOf true false e
++S e = record { forward = true; fast = false; event = e }
 
 abbrev pub -F : Event → Leg
--F e = legOf false true e
+-F e = record { forward = false; fast = true; event = e }
 
 abbrev pub -S : Event → Leg
--S e = legOf false false e
+-S e = record { forward = false; fast = false; event = e }
 
 -- the leg that runs as l does, to the limit ahead: b's first, where l is a's (`first-legs` of homing)
 abbrev pub toLimit : Leg → Leg
-toLimit l = legOf (l .forward) (l .fast) L
+toLimit l = record { forward = l .forward; fast = l .fast; event = L }
 
 -- the table's columns: "a: HOM off", "b: limit met in a's first leg", "c: HOM on"; and `picks`, the switch whose level in the start tick picks c:
--- HOM in 01's rows
+-- HOM in 23 to 30, a limit in 02's methods
 pub record Row : Type 0 where
   pub picks : Switches → Bool
   pub a : List Leg
@@ -83,15 +71,15 @@ row26 = record { picks = HOM; a = +F R ∷ -S D ∷ +S D ∷ []; b = +F L ∷ -F
 -- "Method 17 is −F until NOT rises, then +S until NOT drops; with NOT on at the start, the first leg is skipped. Method 1 is 17 with a
 -- third leg, +S until Z rises."
 abbrev row17 : Row
-row17 = record { picks = NOT; a = -F A ∷ +S B ∷ []; b = []; c = +S B ∷ [] }
+row17 = record { picks = NOT; a = -F L ∷ +S B ∷ []; b = []; c = +S B ∷ [] }
 
 abbrev row1 : Row
-row1 = record { picks = NOT; a = -F A ∷ +S B ∷ +S Z ∷ []; b = []; c = +S B ∷ +S Z ∷ [] }
+row1 = record { picks = NOT; a = -F L ∷ +S B ∷ +S Z ∷ []; b = []; c = +S B ∷ +S Z ∷ [] }
 
 -- "27 to 30 are 23 to 26 with signs turned and NOT for POT"; "18 and 2 turn the signs and use POT". The limits ahead and behind follow the
 -- direction by themselves.
 abbrev pub turned : Leg → Leg
-turned l = record { forward = not (l .forward); fast = l .fast; switch = l .switch; edge = l .edge; moving = l .moving }
+turned l = record { forward = not (l .forward); fast = l .fast; event = l .event }
 
 abbrev swapped : Switches → Switches
 swapped s = record { positive = s .negative; negative = s .positive; home = s .home; index = s .index }

@@ -1,10 +1,11 @@
 // When a leg's event counts in a tick, and when a limit does.
 use counts::Movement;
 ghost use mathlib.Core.Path.{_≡_};
+ghost use mathlib.Core.Bool.{true};
 ghost use Prim.Native.Nat.{_%_, _<_};
 ghost use Rattle.counts.specs.Bit.{bitOf};
-ghost use Rattle.legs.specs.Numbers.{aheadPlace, edgeIn, legFrom};
-ghost use Rattle.legs.specs.Events.{along, rises, edgeOf, switchesIn, viewOf, eventCounts, limitCounts};
+ghost use Rattle.legs.specs.Numbers.{edgeIn, triggerIn, legFrom};
+ghost use Rattle.legs.specs.Events.{along, rises, happens, limitAhead, switchesIn, viewOf, eventCounts, limitCounts};
 
 // The four switches (01: POT, NOT, HOM, Z).
 pub struct Switches {
@@ -13,11 +14,6 @@ pub struct Switches {
     pub home: bool,
     pub index: bool,
 }
-
-// The switches as bits of a word, by their places.
-const POSITIVE: u32 = 0;
-
-const NEGATIVE: u32 = 1;
 
 // Whether POT is on, and whether NOT is.
 pub fn positive_on(switches: u32) -> bool
@@ -53,17 +49,17 @@ fn along_leg(forward: bool, movement: Movement) -> bool
     }
 }
 
-// Whether the bit at a place is set now and was not before; with the two words swapped, whether it drops.
+// Whether the switch at a place is on now and was not before; with the two words swapped, whether it drops.
 fn risen(before: u32, now: u32, place: u32) -> bool
     requires { ⌜ place < 32 ⌝ }
     ensures { λ r. ⌜ r ≡ rises (bitOf before place) (bitOf now place) ⌝ }
 {
-    !((before >> place) % 2 == 1) & ((now >> place) % 2 == 1)
+    !crate::is_on(before, place) & crate::is_on(now, place)
 }
 
 // Whether the leg's switch has the leg's edge.
 fn edge_seen(leg: u32, before: u32, now: u32) -> bool
-    ensures { λ r. ⌜ r ≡ edgeOf (edgeIn leg) (bitOf before (leg % 4)) (bitOf now (leg % 4)) ⌝ }
+    ensures { λ r. ⌜ r ≡ happens (edgeIn leg) true (bitOf before (leg % 4)) (bitOf now (leg % 4)) ⌝ }
 {
     if leg / 4 % 2 == 1 {
         risen(now, before, leg % 4)
@@ -72,12 +68,27 @@ fn edge_seen(leg: u32, before: u32, now: u32) -> bool
     }
 }
 
-// The place of the limit in travel direction.
-fn limit_place(forward: bool) -> u32
-    ensures value { λ r. ⌜ r ≡ aheadPlace forward ⌝ }
-    ensures small { λ r. ⌜ r < 2 ⌝ }
+// Whether the leg's switch does what the leg awaits: it is on, or it has the leg's edge while the axis moves the leg's way.
+fn event_happens(leg: u32, moved: bool, before: u32, now: u32) -> bool
+    ensures { λ r. ⌜ r ≡ happens (triggerIn leg) moved (bitOf before (leg % 4)) (bitOf now (leg % 4)) ⌝ }
 {
-    if forward { POSITIVE } else { NEGATIVE }
+    let edge = edge_seen(leg, before, now);
+    if leg / 64 % 2 == 1 {
+        crate::is_on(now, leg % 4)
+    } else {
+        moved & edge
+    }
+}
+
+// Whether the limit in travel direction is on.
+fn limit_on(forward: bool, switches: u32) -> bool
+    ensures { λ r. ⌜ r ≡ limitAhead forward (switchesIn switches) ⌝ }
+{
+    if forward {
+        positive_on(switches)
+    } else {
+        negative_on(switches)
+    }
 }
 
 // Whether the event of a route's first leg counts.
@@ -86,16 +97,14 @@ pub fn event_counts(leg: u32, seen: Seen) -> bool
 {
     let movement = seen.movement;
     let moved = along_leg(crate::is_forward(leg), movement);
-    let edge = edge_seen(leg, seen.before, seen.now);
-    !seen.halted & (moved & edge)
+    let happens = event_happens(leg, moved, seen.before, seen.now);
+    !seen.halted & happens
 }
 
-// Whether the limit in that leg's direction counts: it rises, with or without movement, in a tick that is not halted, and is not the switch that
-// the leg awaits.
+// Whether the limit in that leg's direction counts: it is on, with or without movement, in a tick that is not halted.
 pub fn limit_counts(leg: u32, seen: Seen) -> bool
     ensures { λ r. ⌜ r ≡ limitCounts (legFrom leg) (viewOf seen) ⌝ }
 {
-    let ahead = limit_place(crate::is_forward(leg));
-    let rises = risen(seen.before, seen.now, ahead);
-    !seen.halted & ((leg % 4 != ahead) & rises)
+    let on = limit_on(crate::is_forward(leg), seen.now);
+    !seen.halted & on
 }

@@ -1,7 +1,7 @@
 // The legs of every method's routes (01: "Homing routes"; 02, (i)), and when a leg's event counts.
 //
 // A leg is a byte: the place of its switch (0 POT, 1 NOT, 2 HOM, 3 Z), 4 more if it awaits the drop, 8 more if it goes forward, 16 more if it is
-// fast, 32 more if a limit turns it to route b. A route is a number: a byte for each leg, the first lowest.
+// fast, 32 more if a limit turns it to route b, 64 more if the switch need only be on. A route is a number: a byte for each leg, the first lowest.
 pub mod events;
 
 ghost use Prim.Native.Nat.{_%_, _<_, _^_};
@@ -10,16 +10,16 @@ ghost use Rattle.counts.specs.Bit.{bitOf};
 ghost use Rattle.legs.specs.Events.{switchesIn};
 ghost use Rattle.legs.specs.Numbers.{mainRoute, turnRoute, skipBy, startRoute, forwardIn, fastIn, turnsIn};
 
-// Route a. F is fast, S slow; R, D and Z are 01's events, A is the rise of the limit ahead, B the drop of the limit behind. 35 and a number that is
-// no method have no leg.
+// Route a. F is fast, S slow; R, D, L and Z are 01's events, L by level; B is the drop of the limit behind. 35 and a number that is no method have
+// no leg.
 fn main_route(method: u32) -> u32
     ensures { λ r. ⌜ r ≡ mainRoute method ⌝ }
 {
     match method {
-        1 => 0x0b_0d_11, // -F A, +S B, +S Z
-        2 => 0x03_04_18, // 1 turned, with POT for NOT
-        17 => 0x0d_11, // -F A, +S B
-        18 => 0x04_18,
+        1 => 0x0b_0d_51, // -F L, +S B, +S Z
+        2 => 0x03_04_58, // 1 turned, with POT for NOT
+        17 => 0x0d_51, // -F L, +S B
+        18 => 0x04_58,
         23 => 0x06_3a, // +F R, -S D
         24 => 0x0a_06_3a, // +F R, -S D, +S R
         25 => 0x02_3e, // +F D, -S R
@@ -57,11 +57,12 @@ fn skip_route(method: u32, main: u32) -> u32
     }
 }
 
-// Whether the switch that a leg awaits is on.
-fn awaited_on(leg: u32, switches: u32) -> bool
-    ensures { λ r. ⌜ r ≡ bitOf switches (leg % 4) ⌝ }
+// Whether the switch at a place is on.
+fn is_on(switches: u32, place: u32) -> bool
+    requires { ⌜ place < 32 ⌝ }
+    ensures { λ r. ⌜ r ≡ bitOf switches place ⌝ }
 {
-    (switches >> (leg % 4)) % 2 == 1
+    (switches >> place) % 2 == 1
 }
 
 // The route of a start, by the switches of its tick. The switch that picks route c is the one that a's first leg awaits, HOM, NOT or POT; 33 to
@@ -71,7 +72,7 @@ pub fn start_route(method: u32, switches: u32) -> u32
     ensures small { λ r. ⌜ r < 2 ^ 24 ⌝ }
 {
     let main = main_route(method);
-    if (method <= 30) & awaited_on(main, switches) {
+    if (method <= 30) & is_on(switches, main % 4) {
         skip_route(method, main)
     } else {
         main

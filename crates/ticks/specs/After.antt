@@ -27,7 +27,7 @@ newMode a t = modeAfter (a .mode) (a .state) t
 abbrev pub newState : Settings → Motion → Tick → State
 newState s a t = stateAfter s (a .state) (a .control) t
 
--- "The start tick … picks a or c by HOM in that tick and counts no event", in a method of 02's by a limit; a later tick is a step
+-- "The start tick [...] picks a or c by HOM in that tick and counts no event", in a method of 02's by a limit; a later tick is a step
 abbrev pub phaseAfter : Phase → ℕ → Bool → View → Phase
 phaseAfter phase method starting v = cond starting (startOf method (v .now)) (stepOf phase method v)
 
@@ -57,7 +57,7 @@ targetOf (Homing request) matched state homed = Nothing
 targetOf (Torque request) matched state homed = Nothing
 targetOf Rest matched state homed = Nothing
 
--- "then control word, switches and position are remembered"
+-- "Then control word, switches and position are remembered"
 abbrev pub motionWith : Tick → State → Mode → ℕ → Phase → ℤ → Motion
 motionWith t state mode alarm phase home =
     record {

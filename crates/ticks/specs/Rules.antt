@@ -52,7 +52,7 @@ homingIn t mode state = homingOn (modeOf (t .command)) mode state
 abbrev pub startsIn : ℕ → Tick → Mode → State → Bool
 startsIn control t mode state = bitRises control (t .control) 4 && homingIn t mode state
 
--- what homing sees of a tick after the start; "a later tick with bit 4 clear, homing not matched or another state makes homing idle"
+-- what homing sees of a tick after the start; "A later tick with bit 4 clear, homing not matched or another state makes homing idle"
 abbrev pub viewWith : Switches → ℤ → Tick → Bool → View
 viewWith switches position t on =
     record {

@@ -1,37 +1,14 @@
-//! Scenes about homing: each route played to its end, with noise that must not count, and the ways it can go wrong.
+//! Scenes about homing: each route played to its end, with noise that must not count, the limits in every leg, and the ways it
+//! can go wrong.
 
 use std::io::Write;
 
 use super::sheets::sheet_s;
 use super::Script;
 use crate::drive_state::DriveState::*;
-use crate::homing::{all_routes, decider, routes, Event, Leg, Way};
-use crate::tick::Switch;
+use crate::homing::{all_routes, decider, failing_legs, legs, Event, Leg, Way, ON_LIMITS};
+use crate::tick::{Switch, Switches};
 use crate::writer::Settings;
-
-/// Where a limit may end homing: a leg that is not a's first, nor one that awaits the limit.
-pub(super) const FAILURES: [(u32, Way, usize); 20] = [
-    (1, Way::OffLimit, 1),
-    (1, Way::OffLimit, 2),
-    (1, Way::OnLimit, 0),
-    (2, Way::OffLimit, 2),
-    (2, Way::OnLimit, 1),
-    (17, Way::OffLimit, 1),
-    (17, Way::OnLimit, 0),
-    (18, Way::OffLimit, 1),
-    (23, Way::A, 1),
-    (24, Way::A, 2),
-    (23, Way::B, 3),
-    (24, Way::B, 1),
-    (25, Way::C, 0),
-    (26, Way::C, 0),
-    (27, Way::B, 2),
-    (28, Way::C, 1),
-    (29, Way::A, 1),
-    (30, Way::B, 1),
-    (33, Way::Sole, 0),
-    (34, Way::Sole, 0),
-];
 
 #[derive(Clone, Copy)]
 pub(super) enum Interruption {
@@ -63,9 +40,16 @@ fn starts_on(way: Way) -> bool {
     matches!(way, Way::C | Way::OnLimit)
 }
 
-fn legs(method: u32, way: Way) -> Vec<Leg> {
-    let allowed = routes(method, starts_on(way));
-    allowed.iter().find(|route| route.way == way).map(|route| route.legs().collect()).unwrap_or_default()
+/// The switches of a start tick that allows this way, with these limits on beside.
+fn start_on(method: u32, way: Way, limits: impl IntoIterator<Item = Switch>) -> Switches {
+    let mut switches = Switches::default();
+    for limit in limits {
+        switches.turn(limit, true);
+    }
+    if let Some(decider) = decider(method) {
+        switches.turn(decider, starts_on(way));
+    }
+    switches
 }
 
 impl<W: Write> Script<W> {
@@ -86,36 +70,53 @@ impl<W: Write> Script<W> {
         self.now.switches.turn(switch, !on);
     }
 
-    /// A sheet with this method, enabled, homing matched, then bit 4 rises.
+    /// A sheet with this method, then bit 4 rises. The limit ahead of the first leg may be on in that
+    /// tick, but no longer in the next.
     fn start(&mut self, method: u32, way: Way) {
         self.start_under(&Settings { method: i64::from(method), ..sheet_s() }, way);
     }
 
     fn start_under(&mut self, settings: &Settings, way: Way) {
+        self.take_over_like(settings);
+        let method = settings.method as u32;
+        let (decider, on) = (decider(method), starts_on(way));
+        self.now.position = self.random.pick(&[100, 0, -5000, i32::MAX - 3, i32::MIN + 3, i32::MAX, i32::MIN]);
+        self.now.switches = Default::default();
+        let level = on != self.random.once_in(3);
+        self.now.switches.turn(decider.unwrap_or(Switch::Hom), level);
+        // Only the decider in the start tick itself matters; what is on, rises or drops there is no event.
+        let mut switches = self.now.switches;
+        if self.random.once_in(3) {
+            for switch in [Switch::Pot, Switch::Not, Switch::Hom, Switch::Z] {
+                let level = self.random.once_in(2);
+                switches.turn(switch, level);
+            }
+        }
+        if let Some(decider) = decider {
+            switches.turn(decider, on);
+        }
+        self.start_with(switches);
+        if let Some(&first) = legs(method, way).first() {
+            self.keep_off(first);
+        }
+    }
+
+    /// These settings, or their method with any others.
+    fn take_over_like(&mut self, settings: &Settings) {
         let mut settings = settings.clone();
         if self.random.once_in(2) {
             let method = settings.method;
             settings = Settings { method, ..self.any_settings() };
         }
         self.take_over(&settings);
+    }
+
+    /// Enabled, homing matched, bit 4 clear; then it is set with these switches.
+    fn start_with(&mut self, switches: Switches) {
         self.now.command = "homing 100".to_string();
         self.reach(OperationEnabled);
-        self.now.position = self.random.pick(&[100, 0, -5000, i32::MAX - 3, i32::MIN + 3, i32::MAX, i32::MIN]);
-        self.now.switches = Default::default();
-        let (decider, on) = (decider(settings.method as u32), starts_on(way));
-        let level = on != self.random.once_in(3);
-        self.now.switches.turn(decider.unwrap_or(Switch::Hom), level);
         self.tick_with(0x000F, "homing 100", true);
-        // Only the decider in the start tick itself matters; what rises or drops there is no event.
-        if self.random.once_in(3) {
-            for switch in [Switch::Pot, Switch::Not, Switch::Hom, Switch::Z] {
-                let level = self.random.once_in(2);
-                self.now.switches.turn(switch, level);
-            }
-        }
-        if let Some(decider) = decider {
-            self.now.switches.turn(decider, on);
-        }
+        self.now.switches = switches;
         let sign = self.random.between(-1, 1) as i32;
         self.move_by(sign);
         let halted = self.random.once_in(8);
@@ -124,10 +125,16 @@ impl<W: Write> Script<W> {
         self.now.control = 0x001F;
     }
 
+    /// The limit ahead counts whenever it is on, so it must be off in the next tick.
+    fn keep_off(&mut self, leg: Leg) {
+        self.now.switches.turn(leg.limit(), false);
+    }
+
     /// A tick that must not count in this leg.
     fn noise(&mut self, leg: Leg) {
         self.now.still = self.random.once_in(4);
-        match self.random.between(0, 7) {
+        self.keep_off(leg);
+        match self.random.between(0, 6) {
             0 => {
                 let sign = self.random.between(-1, 1) as i32;
                 self.move_by(sign);
@@ -139,17 +146,11 @@ impl<W: Write> Script<W> {
                 self.move_by(sign);
                 self.turn(Switch::Hom);
                 self.turn(Switch::Z);
-                if let Event::Rises(limit @ (Switch::Pot | Switch::Not)) = leg.2 {
-                    self.turn(limit);
-                }
                 self.tick();
             }
             2 => self.miss_halted(leg),
             3 => {
-                // The limit, but halted; a drop without movement counts in no leg.
-                self.now.switches.pot = false;
-                self.now.switches.not = false;
-                self.tick();
+                // The limit, but halted.
                 self.now.switches.turn(leg.limit(), true);
                 self.halted_tick();
             }
@@ -161,14 +162,12 @@ impl<W: Write> Script<W> {
                 self.tick();
             }
             5 => {
-                self.now.switches.turn(leg.limit(), false);
-                self.tick();
-            }
-            6 => {
-                // Movement along the leg, and a switch that it does not await: HOM plays no part where Z or a limit is awaited.
+                // Movement along the leg, and a switch that it does not await: HOM plays no part where Z or a limit is awaited,
+                // but in b's first leg it would make it route a.
                 self.move_by(leg.0);
-                let awaits_hom = leg.awaits().0 == Switch::Hom || leg.2 == Event::LimitRises;
-                self.turn(if awaits_hom { Switch::Z } else { Switch::Hom });
+                let limit_sheet = self.axis().sheet().is_some_and(|sheet| ON_LIMITS.contains(&sheet.method()));
+                let heeds_hom = leg.awaits().0 == Switch::Hom || leg.2 == Event::LimitOn && !limit_sheet;
+                self.turn(if heeds_hom { Switch::Z } else { Switch::Hom });
                 self.tick();
             }
             _ => self.tick(),
@@ -183,6 +182,7 @@ impl<W: Write> Script<W> {
 
     /// Turns the leg's switch so that its event can come. The turn itself is no event of this leg.
     fn ready_for(&mut self, leg: Leg) {
+        self.keep_off(leg);
         let (switch, level) = leg.awaits();
         if self.now.switches.on(switch) == level {
             self.turn(switch);
@@ -205,14 +205,32 @@ impl<W: Write> Script<W> {
         self.halted_tick();
     }
 
-    /// Noise, then the leg's event; at times the limit or Z rises in the same tick, which nobody looks at.
+    /// The movement with which the leg's event counts.
+    fn move_for(&mut self, leg: Leg) {
+        let sign = if leg.2 == Event::LimitOn { self.random.pick(&[0, 0, 1, -1]) } else { leg.0 };
+        self.move_by(sign);
+    }
+
+    /// The leg's event, as soon as it can be.
+    fn pass(&mut self, leg: Leg) {
+        self.ready_for(leg);
+        self.move_for(leg);
+        self.flip(leg);
+        self.tick();
+    }
+
+    /// Noise, then the leg's event; at times the limit or Z rises in the same tick, which nobody looks at, or the awaited limit
+    /// came on in halt.
     fn leg(&mut self, leg: Leg) {
         for _ in 0..self.random.between(0, 2) {
             self.noise(leg);
         }
         self.ready_for(leg);
-        let sign = if leg.2 == Event::LimitRises { self.random.pick(&[0, 0, 1, -1]) } else { leg.0 };
-        self.move_by(sign);
+        if leg.2 == Event::LimitOn && self.random.once_in(4) {
+            self.flip(leg);
+            self.halted_tick();
+        }
+        self.move_for(leg);
         self.flip(leg);
         if self.random.once_in(5) {
             self.now.switches.turn(leg.limit(), true);
@@ -238,20 +256,32 @@ impl<W: Write> Script<W> {
         }
     }
 
-    /// 17, 18, 1 and 2: started as their limit rises, then as it drops, for the start tick's level alone is looked at. Then each
-    /// leg's switch turns as it must not count: without movement, coasting, halted; HOM turns on the way along. Only then comes
-    /// the event, and with it a rise of Z, which is used up.
+    /// 17, 18, 1 and 2: started as their limit rises, then as it drops, for the start tick's level alone is looked at. The first
+    /// leg is ended by the limit without movement, coasting, along, and since halt. Then each leg's switch turns as it must not
+    /// count: without movement, coasting, halted; HOM turns on the way along. Only then comes the event, and with it a rise of Z,
+    /// which is used up.
     pub(super) fn miss(&mut self, method: u32) {
         self.start(method, Way::OffLimit);
         let legs = legs(method, Way::OffLimit);
-        for on in [true, false] {
-            self.now.switches.turn(legs[0].limit(), !on);
+        let (first, limit) = (legs[0], legs[0].limit());
+        self.tick_with(0x000F, "homing 100", true);
+        self.now.switches.turn(limit, true);
+        self.tick_with(0x001F, "homing 100", false);
+        for (sign, halted) in [(first.0, false), (0, true), (-first.0, false), (0, false)] {
             self.tick_with(0x000F, "homing 100", true);
-            self.now.switches.turn(legs[0].limit(), on);
-            self.move_by(legs[0].0);
+            self.now.switches.turn(limit, false);
             self.tick_with(0x001F, "homing 100", false);
+            if halted {
+                self.miss_halted(first);
+                self.keep_off(first);
+                self.tick();
+                self.miss_halted(first);
+            }
+            self.move_by(sign);
+            self.now.switches.turn(limit, true);
+            self.tick();
         }
-        for leg in legs {
+        for &leg in &legs[1..] {
             for sign in [0, -leg.0] {
                 self.ready_for(leg);
                 self.move_by(sign);
@@ -271,27 +301,118 @@ impl<W: Write> Script<W> {
         }
     }
 
-    /// A limit met in travel direction where the route has no use for it.
-    pub(super) fn fail(&mut self, (method, way, place): (u32, Way, usize)) {
-        self.start(method, way);
+    /// The limits under one sheet: each leg begins with its limit on, and so it fails, or turns, or its event comes first.
+    pub(super) fn limits(&mut self, method: u32) {
+        self.take_over_like(&Settings { method: i64::from(method), ..sheet_s() });
+        for (_, way) in all_routes().into_iter().filter(|route| route.0 == method) {
+            self.outrun(method, way);
+            let mut places: Vec<usize> =
+                failing_legs().into_iter().filter(|leg| (leg.0, leg.1) == (method, way)).map(|leg| leg.2).collect();
+            if way == Way::A {
+                places.insert(0, 0);
+            }
+            for &place in &places {
+                self.hold(method, way, place);
+            }
+            let place = if way == Way::A { 0 } else { self.random.pick(&places) };
+            self.let_go(method, way, place);
+            self.leave(method, way);
+        }
+    }
+
+    /// Both limits on wherever they can be: each leg's event comes in a tick with its limit on, in the leg's first tick if the
+    /// awaited switch stands right.
+    fn outrun(&mut self, method: u32, way: Way) {
+        self.start_with(start_on(method, way, [Switch::Pot, Switch::Not]));
+        for leg in legs(method, way) {
+            let (switch, level) = leg.awaits();
+            if leg.2 != Event::LimitOn && self.now.switches.on(switch) == level {
+                self.ready_for(leg);
+            }
+            self.move_for(leg);
+            self.now.switches.pot = true;
+            self.now.switches.not = true;
+            self.flip(leg);
+            self.tick();
+        }
+    }
+
+    /// Plays up to the leg at this place, which begins with its limit on. Where it lay behind in the leg before, it is on all
+    /// along there.
+    fn begin_on_limit(&mut self, method: u32, way: Way, place: usize) {
         let legs = legs(method, way);
-        for &leg in &legs[..place] {
-            self.leg(leg);
+        let ahead = legs[place].limit();
+        let from_start = place == 0 || place == 1 && legs[0].behind() == ahead;
+        self.start_with(start_on(method, way, from_start.then_some(ahead)));
+        for (at, &leg) in legs[..place].iter().enumerate() {
+            if at == 0 && from_start {
+                self.move_by(leg.0);
+                self.tick();
+            }
+            self.ready_for(leg);
+            self.move_for(leg);
+            self.flip(leg);
+            if at + 1 == place {
+                self.now.switches.turn(ahead, true);
+            }
+            self.tick();
         }
-        self.now.switches.turn(legs[place].limit(), false);
+    }
+
+    /// The leg begins with its limit on, and it stays on.
+    fn hold(&mut self, method: u32, way: Way, place: usize) {
+        self.begin_on_limit(method, way, place);
+        if self.random.once_in(4) {
+            self.halted_tick();
+        }
+        self.meet(method, way, place);
+    }
+
+    /// The leg begins with its limit on, but it goes off; then it comes on again, in halt or not.
+    fn let_go(&mut self, method: u32, way: Way, place: usize) {
+        self.begin_on_limit(method, way, place);
+        let leg = legs(method, way)[place];
+        self.keep_off(leg);
+        let sign = self.random.between(-1, 1) as i32;
+        self.move_by(sign);
         self.tick();
-        self.now.switches.turn(legs[place].limit(), true);
-        if self.random.once_in(2) {
-            self.move_by(legs[place].0);
+        self.now.switches.turn(leg.limit(), true);
+        // Of the first legs of a, half turn since halt for sure.
+        if self.random.once_in(2) || way == Way::A && method.is_multiple_of(2) {
+            self.halted_tick();
         }
+        self.meet(method, way, place);
+    }
+
+    /// A tick in this leg that counts the limit: a's first leg turns, any other fails. At times it is played on, to b's end or
+    /// in vain.
+    fn meet(&mut self, method: u32, way: Way, place: usize) {
+        let sign = self.random.between(-1, 1) as i32;
+        self.move_by(sign);
         self.tick();
-        for &leg in &legs[place..] {
-            self.leg(leg); // played on in vain
+        let turned = way == Way::A && place == 0;
+        if self.random.once_in(if turned { 2 } else { 6 }) {
+            let rest = if turned { legs(method, Way::B).split_off(1) } else { legs(method, way).split_off(place) };
+            for leg in rest {
+                self.pass(leg);
+            }
         }
-        self.tick_with(0x000F, "homing 0", true);
-        if method % 2 == 0 {
-            self.tick_with(0x001F, "homing 0", true); // a new start clears the error; else the next takeover does
+    }
+
+    /// Away from the limit: in a route of one leg, the one behind is on all along.
+    fn leave(&mut self, method: u32, way: Way) {
+        if let [leg] = legs(method, way)[..] {
+            self.start_with(start_on(method, way, [leg.behind()]));
+            self.move_by(leg.0);
+            self.tick();
+            self.pass(leg);
         }
+    }
+
+    /// A sheet with this method and a start, then a homing error.
+    pub(super) fn fail(&mut self, method: u32, way: Way) {
+        self.take_over_like(&Settings { method: i64::from(method), ..sheet_s() });
+        self.hold(method, way, 0);
     }
 
     /// Homing cut off in the midst; the rest of the legs is played in vain, for bit 4 does not rise again. A halt only
@@ -323,6 +444,7 @@ impl<W: Write> Script<W> {
                 for _ in 0..3 {
                     self.halted_tick();
                 }
+                self.keep_off(legs[cut]);
             }
         }
         self.tick_with(0x001F, "homing 3", true);

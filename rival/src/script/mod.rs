@@ -10,7 +10,7 @@ use std::io::{self, Write};
 
 use crate::axis::Axis;
 use crate::drive_state::DriveState;
-use crate::homing::{all_routes, Way, ON_LIMITS};
+use crate::homing::{all_routes, Way, METHODS, ON_LIMITS};
 use crate::lines::{self, LONGEST};
 use crate::program::Program;
 use crate::random::Random;
@@ -66,7 +66,7 @@ pub struct Script<W: Write> {
 enum Scene {
     Home(u32, Way),
     Miss(u32),
-    Fail(usize),
+    Limits(u32),
     Interrupt(homing::Interruption),
     NoStart,
     HalfTurn,
@@ -113,7 +113,7 @@ fn scenes() -> Vec<Scene> {
     ];
     scenes.extend(all_routes().into_iter().map(|(method, way)| Scene::Home(method, way)));
     scenes.extend(ON_LIMITS.map(Scene::Miss));
-    scenes.extend((0..homing::FAILURES.len()).map(Scene::Fail));
+    scenes.extend(METHODS.into_iter().filter(|&method| method != 35).map(Scene::Limits));
     scenes.extend(homing::INTERRUPTIONS.map(Scene::Interrupt));
     scenes
 }
@@ -168,7 +168,7 @@ impl<W: Write> Script<W> {
         match scene {
             Scene::Home(method, way) => self.home(method, way),
             Scene::Miss(method) => self.miss(method),
-            Scene::Fail(failure) => self.fail(homing::FAILURES[failure]),
+            Scene::Limits(method) => self.limits(method),
             Scene::Interrupt(interruption) => self.interrupt(interruption),
             Scene::NoStart => self.start_in_vain(),
             Scene::HalfTurn => self.half_turn(),

@@ -337,7 +337,7 @@ impl<W: Write> Script<W> {
                     self.take_over_any(); // Not ready until the first tick after it
                 }
                 SwitchOnDisabled | Fault => self.home(35, Way::Sole),
-                Ready => self.fail((23, Way::C, 0)),
+                Ready => self.fail(23, Way::C),
                 _ => {}
             }
             self.reach(state);

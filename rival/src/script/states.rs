@@ -153,8 +153,9 @@ impl<W: Write> Script<W> {
             let sign = self.random.between(-1, 1);
             self.move_by(sign as i32);
             let switches = &mut self.now.switches;
-            switches.pot ^= self.random.once_in(6);
-            switches.not ^= self.random.once_in(6);
+            // A limit counts as long as it is on, so it goes sooner than it comes.
+            switches.pot = self.random.once_in(if switches.pot { 2 } else { 12 });
+            switches.not = self.random.once_in(if switches.not { 2 } else { 12 });
             switches.hom ^= self.random.once_in(3);
             switches.z ^= self.random.once_in(3);
             self.now.still = self.random.once_in(2);

@@ -5,6 +5,7 @@ use super::settings::{can_hold, EDGES, FIELDS, INNER_METHODS};
 use super::text::{EXPECTED, FLOAT_SHAPES};
 use crate::control_word::DriveCommand::*;
 use crate::drive_state::DriveState::{self, *};
+use crate::homing::failing_legs;
 use crate::lines::LONGEST;
 use crate::refusal::Refusal::*;
 
@@ -85,6 +86,8 @@ const SINGLE: &[&str] = &[
     "homed stays in fault",
     "homed stays with bit 4 clear",
     "homing error without movement",
+    "homing error along the movement",
+    "homing error against the movement",
     "halt in the midst",
     "idled: bit 4 clear",
     "idled: rest",
@@ -95,8 +98,17 @@ const SINGLE: &[&str] = &[
     "event missed: coasting the other way",
     "limit missed: halted",
     "limit passes: against travel",
-    "event and limit in one tick",
-    "limit without movement",
+    "limit gone as halt ends",
+    "limit on since halt: turns",
+    "limit on since halt: error",
+    "limit on in the start tick, off in the next",
+    "limit on in the tick that begins a leg, off in the next",
+    "limit turns without movement",
+    "limit turns along the movement",
+    "limit turns against the movement",
+    "event and limit in one tick, it rises",
+    "event and limit in one tick, it was on",
+    "a first leg begins on the limit: event first",
     "event counts across 2^31",
     "event counts at a movement of 2^31",
     "target not followed: not homed",
@@ -233,15 +245,22 @@ fn homing() -> Vec<String> {
     for (method, limit) in [(1, "Not"), (2, "Pot"), (17, "Not"), (18, "Pot")] {
         names.extend(["OffLimit", "OnLimit"].map(|way| format!("method {method} homed by {way}")));
         names.extend(["rises", "drops"].map(|turn| format!("method {method}: start as {limit} {turn}")));
-        for turn in ["rise", "drop"] {
-            let missed = ["halted", "no movement", "coasting the other way"];
-            names.extend(missed.map(|why| format!("method {method}: {limit}'s {turn} missed: {why}")));
-        }
+        let missed = ["halted", "no movement", "coasting the other way"];
+        names.extend(missed.map(|why| format!("method {method}: {limit}'s drop missed: {why}")));
+        let ends = ["without movement", "along the movement", "against the movement", "since halt"];
+        names.extend(ends.map(|how| format!("method {method}: first leg ends {how}")));
         let passes = ["HOM plays no part", "the limit behind rises", "Z rises in the tick of another event"];
         names.extend(passes.map(|what| format!("method {method}: {what}")));
     }
     let with_a_leg = [1, 2, 17, 18].into_iter().chain(23..=30).chain([33, 34]);
-    names.extend(with_a_leg.map(|method| format!("homing error, method {method}")));
+    names.extend(with_a_leg.clone().map(|method| format!("homing error, method {method}")));
+    names.extend(with_a_leg.map(|method| format!("method {method}: limit behind on all along")));
+    names.extend((23..=30).map(|method| format!("method {method} begins on the limit: turns")));
+    names.extend((23..=30).map(|method| format!("method {method} B, leg 3 begins on the limit: event first")));
+    names.extend([1, 2].map(|method| format!("method {method}, last leg begins on the limit: event first")));
+    for (method, way, place) in failing_legs() {
+        names.push(format!("method {method} {way:?}, leg {} begins on the limit: error", place + 1));
+    }
     names.extend(["A", "B", "C", "OffLimit", "OnLimit", "Sole"].map(|way| format!("homing error, route {way}")));
     let left = [SwitchedOn, Ready, SwitchOnDisabled, QuickStopActive, FaultReaction];
     names.extend(left.map(|state| format!("idled: state {state:?}")));

@@ -1,11 +1,11 @@
 //! Ticks: states, homing, and what is handed out.
 
-use super::{refused, Tally};
+use super::{refused, Stretch, Tally};
 use crate::axis::Axis;
 use crate::command::Command;
 use crate::control_word::{ControlWord, FAULT_RESET, HALT, HOMING_START};
 use crate::drive_state::DriveState::{self, *};
-use crate::homing::{decider, Event, Homing, Leg, Moment, ON_LIMITS};
+use crate::homing::{decider, Event, Homing, Leg, Moment, Way, ON_LIMITS};
 use crate::hybrid::Hybrid;
 use crate::sheet::{LimitSet, Sheet};
 use crate::tick::{Answer, Switch, Tick};
@@ -17,18 +17,21 @@ struct Before {
     alarm: u32,
     homing: Homing,
     remembered: ControlWord,
-    last: Option<Moment>,
+    /// Since the homing start: the latest tick that was not halted, or the start, and the halted ones after it.
+    recent: Vec<Moment>,
 }
 
 impl Before {
     fn of(axis: &Axis) -> Before {
+        let ticks = axis.since_start();
+        let latest = ticks.iter().rposition(|tick| !tick.control.has(HALT)).unwrap_or(0);
         Before {
             state: axis.state(),
             mode: axis.shown_mode(),
             alarm: axis.alarm_number(),
             homing: axis.homing(),
             remembered: axis.remembered(),
-            last: axis.since_start().last().copied(),
+            recent: ticks[latest..].to_vec(),
         }
     }
 }
@@ -71,6 +74,7 @@ impl Tally {
         self.saw_torque(tick, &sheet, &answer);
         self.saw_remembered(tick, &before);
         self.switches = tick.switches;
+        self.stretch = self.stretch_after(tick, &before);
         self.taken_over = false;
         if let Command::Hybrid(hybrid) = tick.command {
             self.saw_hybrid(tick, &hybrid, &sheet, &before);
@@ -172,9 +176,20 @@ impl Tally {
         }
     }
 
+    fn stretch_after(&self, tick: &Tick, before: &Before) -> Stretch {
+        let Homing::Runs { leg, .. } = self.axis.homing() else {
+            return Stretch::default();
+        };
+        let behind = tick.switches.on(leg.behind());
+        if self.axis.homing() != before.homing {
+            return Stretch { tried: false, behind };
+        }
+        Stretch { tried: self.stretch.tried || !tick.control.has(HALT), behind: self.stretch.behind && behind }
+    }
+
     /// A tick while homing ran before it.
     fn saw_homing(&mut self, tick: &Tick, before: &Before) {
-        let (Homing::Runs { leg, way, .. }, Some(last)) = (before.homing, before.last) else {
+        let (Homing::Runs { leg, way, place }, Some(&last)) = (before.homing, before.recent.last()) else {
             if let (Homing::Homed { .. }, Homing::Homed { .. }) = (before.homing, self.axis.homing()) {
                 self.saw_if(self.axis.state() == Fault, "homed stays in fault");
                 self.saw_if(!tick.control.has(HOMING_START), "homed stays with bit 4 clear");
@@ -187,12 +202,14 @@ impl Tally {
             Homing::Error => {
                 self.saw(&format!("homing error, method {method}"));
                 self.saw(&format!("homing error, route {way:?}"));
-                self.saw_if(tick.position == last.position, "homing error without movement");
             }
             Homing::Idle => self.saw_idled(tick),
             Homing::Runs { .. } => self.saw_if(tick.control.has(HALT), "halt in the midst"),
         }
         self.saw_counting(tick, before, method, leg, &last);
+        if !tick.control.has(HALT) {
+            self.saw_limit(tick, before, (method, way, place), leg, &last);
+        }
     }
 
     fn saw_idled(&mut self, tick: &Tick) {
@@ -206,12 +223,11 @@ impl Tally {
         }
     }
 
-    /// Events and limits that happen in a leg, whether they count or not.
+    /// Switches that turn in a leg, whether they count or not.
     fn saw_counting(&mut self, tick: &Tick, before: &Before, method: u32, leg: Leg, last: &Moment) {
         let turned = |switch, level| tick.switches.turned(&last.switches, switch, level);
         let (switch, level) = leg.awaits();
-        let event = leg.2 != Event::LimitRises && turned(switch, level);
-        let limit = leg.2 != Event::Rises(leg.limit()) && turned(leg.limit(), true);
+        let event = leg.2 != Event::LimitOn && turned(switch, level);
         let opposite = turned(leg.behind(), true);
         let moved = tick.position.wrapping_sub(last.position);
         let halted = tick.control.has(HALT);
@@ -225,8 +241,7 @@ impl Tally {
         for (_, why) in missed.into_iter().filter(|(missed, _)| stays && event && *missed) {
             self.saw(&format!("event missed: {why}"));
             if matches!(switch, Switch::Pot | Switch::Not) {
-                let turn = if level { "rise" } else { "drop" };
-                self.saw(&format!("method {method}: {switch:?}'s {turn} missed: {why}"));
+                self.saw(&format!("method {method}: {switch:?}'s drop missed: {why}"));
             }
         }
         if ON_LIMITS.contains(&method) && !halted {
@@ -236,16 +251,66 @@ impl Tally {
             let z_used_up = counts && switch != Switch::Z && turned(Switch::Z, true);
             self.saw_if(z_used_up, &format!("method {method}: Z rises in the tick of another event"));
         }
-        self.saw_if(stays && limit && halted, "limit missed: halted");
+        self.saw_if(stays && turned(leg.limit(), true) && halted, "limit missed: halted");
         self.saw_if(stays && opposite && !halted, "limit passes: against travel");
-        self.saw_if(counts && limit, "event and limit in one tick");
-        self.saw_if(
-            limit && moved == 0 && matches!(self.axis.homing(), Homing::Runs { .. }) && !stays,
-            "limit without movement",
-        );
         let around = i64::from(tick.position) - i64::from(last.position) != i64::from(moved);
         self.saw_if(counts && around, "event counts across 2^31");
         self.saw_if(counts && moved == i32::MIN, "event counts at a movement of 2^31");
+    }
+
+    /// What the limits do in a tick that is not halted.
+    fn saw_limit(&mut self, tick: &Tick, before: &Before, (method, way, place): (u32, Way, usize), leg: Leg, last: &Moment) {
+        let (limit, after) = (leg.limit(), self.axis.homing());
+        let was_on = |moment: &Moment| moment.switches.on(limit);
+        let on = tick.switches.on(limit);
+        let stays = after == before.homing;
+        let fails = after == Homing::Error;
+        let turns = (way, place) == (Way::A, 0) && matches!(after, Homing::Runs { way: Way::B, .. });
+        let ends = !stays && !fails && !turns && after != Homing::Idle;
+
+        // The leg's first tick that is not halted: nothing could count since the one in which it began.
+        if !self.stretch.tried && before.recent.first().is_some_and(was_on) {
+            let held = on && before.recent.iter().all(was_on);
+            self.saw_if(held && turns, &format!("method {method} begins on the limit: turns"));
+            self.saw_if(held && fails, &format!("method {method} {way:?}, leg {} begins on the limit: error", place + 1));
+            if held && ends {
+                match (way, place) {
+                    (_, 0) => self.saw("a first leg begins on the limit: event first"),
+                    (Way::B, 2) => self.saw(&format!("method {method} B, leg 3 begins on the limit: event first")),
+                    _ if leg.awaits().0 == Switch::Z => {
+                        self.saw(&format!("method {method}, last leg begins on the limit: event first"))
+                    }
+                    _ => {}
+                }
+            }
+            let begins = if place == 0 { "the start tick" } else { "the tick that begins a leg" };
+            self.saw_if(!on && stays, &format!("limit on in {begins}, off in the next"));
+        }
+
+        let came = before.recent.windows(2).any(|pair| pair[1].switches.turned(&pair[0].switches, limit, true));
+        if came && was_on(last) {
+            self.saw_if(on && turns, "limit on since halt: turns");
+            self.saw_if(on && fails, "limit on since halt: error");
+            let awaited = on && ends && leg.2 == Event::LimitOn;
+            self.saw_if(awaited, &format!("method {method}: first leg ends since halt"));
+            self.saw_if(!on && stays, "limit gone as halt ends");
+        }
+
+        let how = match tick.position.wrapping_sub(last.position).signum() * leg.0 {
+            0 => "without movement",
+            1 => "along the movement",
+            _ => "against the movement",
+        };
+        self.saw_if(fails, &format!("homing error {how}"));
+        self.saw_if(turns, &format!("limit turns {how}"));
+        if ends && leg.2 == Event::LimitOn {
+            self.saw(&format!("method {method}: first leg ends {how}"));
+        } else if ends && on {
+            let before = if was_on(last) { "was on" } else { "rises" };
+            self.saw(&format!("event and limit in one tick, it {before}"));
+        }
+        let all_along = self.stretch.tried && self.stretch.behind && tick.switches.on(leg.behind());
+        self.saw_if(ends && all_along, &format!("method {method}: limit behind on all along"));
     }
 
     fn saw_target(&mut self, tick: &Tick, sheet: &Sheet, answer: &Answer) {

@@ -11,8 +11,8 @@ use Rattle.legs.proofs.start_route.Tie as tie
 main-route-requires : tie.Need-main-route-requires
 main-route-requires c κs = search needs
 
-awaited-on-requires : tie.Need-awaited-on-requires
-awaited-on-requires c κs = search needs
+is-on-requires : tie.Need-is-on-requires
+is-on-requires c κs = search needs
 
 skip-route-requires : tie.Need-skip-route-requires
 skip-route-requires c κs = c .before .before .main-route .ensures
@@ -23,7 +23,7 @@ returns c =
     let m = a .before in
     let x = m .before .args in
     let e : c .skip-route .result ≡ startRoute (x .method) (switchesIn (x .switches)) =
-    c .skip-route .ensures ∙ sym (start-by (x .method) (x .switches) ∙ rw (← m .main-route .ensures, ← a .awaited-on .ensures, c .before .if1 .taken)) in
+    c .skip-route .ensures ∙ sym (start-by (x .method) (x .switches) ∙ rw (← m .main-route .ensures, ← a .is-on .ensures, c .before .if1 .taken)) in
     (e, rw e (start-small (x .method) (switchesIn (x .switches))))
 
 returns-2 : tie.Need-returns-2
@@ -32,9 +32,9 @@ returns-2 c =
     let m = a .before in
     let x = m .before .args in
     let e : m .main-route .result ≡ startRoute (x .method) (switchesIn (x .switches)) =
-    m .main-route .ensures ∙ sym (start-by (x .method) (x .switches) ∙ rw (← m .main-route .ensures, ← a .awaited-on .ensures, c .if1 .left)) in
+    m .main-route .ensures ∙ sym (start-by (x .method) (x .switches) ∙ rw (← m .main-route .ensures, ← a .is-on .ensures, c .if1 .left)) in
     (e, rw e (start-small (x .method) (switchesIn (x .switches))))
 
 pub start-route-spec : {M : Type 1} → statement M
 start-route-spec =
-    tie.close (tie.spec main-route-requires awaited-on-requires skip-route-requires returns returns-2)
+    tie.close (tie.spec main-route-requires is-on-requires skip-route-requires returns returns-2)

@@ -11,16 +11,16 @@ is-forward-requires c κs = search needs
 along-leg-requires : tie.Need-along-leg-requires
 along-leg-requires c κs = search needs
 
-edge-seen-requires : tie.Need-edge-seen-requires
-edge-seen-requires c κs = search needs
+event-happens-requires : tie.Need-event-happens-requires
+event-happens-requires c κs = search needs
 
 returns : tie.Need-returns
 returns c =
     let e = c .before in
     let a = e .before in
     let x = a .before .before .args in
-    rw (e .edge-seen .ensures, a .along-leg .ensures, a .before .is-forward .ensures) (event-test (x .leg) (x .seen))
+    rw (e .event-happens .ensures, a .along-leg .ensures, a .before .is-forward .ensures) (event-test (x .leg) (x .seen))
 
 pub event-counts-spec : {M : Type 1} → statement M
 event-counts-spec =
-    tie.close (tie.spec is-forward-requires along-leg-requires edge-seen-requires returns)
+    tie.close (tie.spec is-forward-requires along-leg-requires event-happens-requires returns)
