@@ -125,9 +125,9 @@ pub fn legs(method: u32, way: Way) -> Vec<Leg> {
 /// Every leg that a limit ends with an error, by its place in its route: all but a's first, which it moves to b's second, and
 /// those that await it.
 pub fn failing_legs() -> Vec<(u32, Way, usize)> {
-    let first = |way| matches!(way, Way::C | Way::OnLimit | Way::Sole);
+    let fails_at_once = |way| matches!(way, Way::C | Way::OnLimit | Way::Sole);
     let places = |(method, way)| (0..legs(method, way).len()).map(move |place| (method, way, place));
-    all_routes().into_iter().flat_map(places).filter(|&(_, way, place)| place > 0 || first(way)).collect()
+    all_routes().into_iter().flat_map(places).filter(|&(_, way, place)| place > 0 || fails_at_once(way)).collect()
 }
 
 #[derive(Clone, Copy)]

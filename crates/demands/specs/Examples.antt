@@ -159,13 +159,14 @@ further =
     ∷ sameCounts (map speed (after enabled (start 100 POT ∷ at 100 POT ∷ []))) (pos 20000 ∷ minus 20000 ∷ [])
     ∷ sameCounts (map speed (after (enabled-with 1 27) (start 100 NOT ∷ at 100 NOT ∷ []))) (minus 20000 ∷ pos 20000 ∷ [])
     ∷ sameWords (map status (after (enabled-with 1 33) (start 100 NOT ∷ at 100 NOT ∷ []))) (0x0A37 ∷ 0x2E37 ∷ [])
-    -- the awaited limit ends its leg without movement; but not in the start tick, which skips it or not
+    -- the awaited limit ends its leg without movement; on in the start tick, it skips that leg, and then is the limit behind
     ∷ sameCounts (map speed (after (enabled-with 1 17) (start 100 off ∷ at 100 NOT ∷ []))) (minus 20000 ∷ pos 1000 ∷ [])
     ∷ sameCounts (map speed (after (enabled-with 1 18) (start 100 off ∷ at 100 POT ∷ []))) (pos 20000 ∷ minus 1000 ∷ [])
     ∷ sameCounts (map speed (after (enabled-with 1 18) (start 100 POT ∷ at 100 POT ∷ []))) (minus 1000 ∷ minus 1000 ∷ [])
-    -- a limit that came on in halt counts when halt ends
+    -- a limit that came on in halt counts when halt ends, if it is still on
     ∷ sameCounts (map speed (after enabled (start 100 off ∷ halted 100 POT ∷ halted 100 POT ∷ at 100 POT ∷ []))) (pos 20000 ∷ pos 0 ∷ pos 0 ∷ minus 20000 ∷ [])
     ∷ homes 23 (start 100 off ∷ halted 100 POT ∷ at 100 POT ∷ at 95 HOM ∷ at 97 off ∷ at 96 HOM ∷ at 94 off ∷ [])
+    ∷ homes 23 (start 100 off ∷ halted 100 POT ∷ at 100 off ∷ at 110 HOM ∷ at 108 off ∷ [])
     -- the event and the limit in one tick: the event
     ∷ homes 23 (start 100 POT ∷ at 101 (switchesIn 5) ∷ at 99 off ∷ [])
     -- not homed: the edge lost in halt

@@ -144,15 +144,16 @@ complete =
     -- 02, (ii): parked on the limit ahead, the axis turns in the first tick after the start
     ∷ start 23 100 positive (at 100 positive ∷ at 95 home ∷ at 97 off ∷ at 96 home ∷ at 94 off ∷ [])
     ∷ start 27 100 negative (at 100 negative ∷ at 105 home ∷ at 103 off ∷ at 104 home ∷ at 106 off ∷ [])
-    -- on in the start tick alone, it counts nothing; nor does the limit behind, on all along
+    -- on in the start tick alone, it counts for nothing; nor does the limit behind, on all along
     ∷ start 23 100 positive (at 101 off ∷ at 110 home ∷ at 108 off ∷ [])
     ∷ start 34 100 negative (at 101 negative ∷ at 102 indexAndNegative ∷ [])
     -- the event goes first
     ∷ start 33 100 negative (at 99 indexAndNegative ∷ [])
-    -- the awaited limit ends its leg without movement, and against it
+    -- the awaited limit ends its leg without movement, and with movement the other way; skipped by the start, it is the limit behind
     ∷ start 17 100 off (at 100 negative ∷ at 102 off ∷ [])
     ∷ start 18 100 off (at 100 positive ∷ at 98 off ∷ [])
     ∷ start 17 100 off (at 101 negative ∷ at 103 off ∷ [])
+    ∷ start 17 100 negative (at 101 negative ∷ at 102 off ∷ [])
     ∷ start 2 100 off (at 100 positive ∷ at 98 off ∷ at 97 index ∷ [])
     -- 33 and 34, whatever HOM is; 35 by the start tick alone
     ∷ start 33 100 off (at 99 index ∷ [])
@@ -182,7 +183,7 @@ incomplete =
     -- on the limits: a drop while still coasting
     ∷ start 17 100 off (at 90 negative ∷ at 88 off ∷ [])
     ∷ start 18 100 off (at 110 positive ∷ at 112 off ∷ [])
-    -- a drop without movement is lost: it is no level
+    -- a drop without movement is lost: it does not count by level
     ∷ start 17 100 negative (at 100 off ∷ at 102 off ∷ [])
     ∷ start 18 100 positive (at 100 off ∷ at 98 off ∷ [])
     -- parked on the limit ahead: 23 does not go on along a, and 33 and 34 fail
@@ -191,7 +192,7 @@ incomplete =
     ∷ start 34 100 positive (at 101 positive ∷ at 102 indexAndPositive ∷ [])
     -- the limit ahead is still on when b's third leg begins
     ∷ start 24 100 off (at 120 positive ∷ at 115 homeAndPositive ∷ at 112 positive ∷ at 113 positive ∷ at 114 homeAndPositive ∷ [])
-    -- it is on from the tick that ends the second leg of 1 and 2
+    -- 1 and 2: the limit ahead is on from the tick in which the other one drops
     ∷ start 1 100 negative (at 102 positive ∷ at 103 positive ∷ at 104 indexAndPositive ∷ [])
     ∷ start 2 100 positive (at 98 negative ∷ at 97 negative ∷ at 96 indexAndNegative ∷ [])
     -- the wrong switch

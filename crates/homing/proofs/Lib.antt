@@ -5,3 +5,4 @@ pub mod LimitLeg
 pub mod Phases
 pub mod Starts
 pub mod Stopped
+pub mod Parked

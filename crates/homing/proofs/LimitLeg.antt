@@ -1,5 +1,5 @@
 -- Route b's first leg is a's first, run to the limit ahead; and its event counts exactly where the limit does in a's. So the tick that turns
--- (`Turns`) is the one that ends b's first segment; and where a leg awaits the limit ahead, that limit is never its error.
+-- (`Turns`) is the one that ends b's first segment; and where a leg's event is L, that limit is never its error.
 -- Assumes nothing.
 use mathlib.Core.Path.{_≡_, refl}
 use mathlib.Core.List.{List, [], _∷_}

@@ -3,3 +3,4 @@ pub mod Progress
 pub mod Phase
 pub mod Steps
 pub mod Moving
+pub mod Parked

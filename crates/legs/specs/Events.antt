@@ -70,6 +70,6 @@ eventCounts l v =
     not (v .halted) && happens (l .event .trigger) (along (l .forward) (v .movement)) (awaited l (v .before)) (awaited l (v .now))
 
 -- "after the start tick and outside halt, a limit in the travel direction counts whenever it is on" (02, (ii)). "The leg's own event still comes
--- first" is said where both are asked (`Ends`, `advance`, `runningOf`); so a leg that awaits that limit ends by it, and it is "no homing error".
+-- first" is said where both are asked (`Ends` and `Turns`, `advance`, `runningOf`); so a leg that awaits L ends by it, and it is "no homing error".
 unfoldable pub limitCounts : Leg → View → Bool
 limitCounts l v = not (v .halted) && limitAhead (l .forward) (v .now)

@@ -11,7 +11,7 @@ use Rattle.legs.specs.Legs.{Switch, Home, Index, LimitAhead, LimitBehind
 use Rattle.legs.specs.Routes.{Row, rowOf}
 
 -- the place of the limit ahead in a word of switches: POT is bit 0, NOT bit 1
-abbrev pub aheadPlace : Bool → ℕ
+abbrev aheadPlace : Bool → ℕ
 aheadPlace forward = cond forward 0 1
 
 abbrev switchPlace : Switch → Bool → ℕ
@@ -26,8 +26,8 @@ triggerBit Drop = 4
 triggerBit On = 64
 
 -- the byte of a leg: its switch's place in a word of switches (POT, NOT, HOM, Z), 4 more if it awaits the drop, 64 more if it awaits the
--- level, 8 more if it goes forward, 16 more if it is fast; 32 is for the turn (`mainIn`). The bytes of a route spell its legs: computed over the
--- table, `homing/proofs/Simulation.antt`.
+-- level, 8 more if it goes forward, 16 more if it is fast; 32 is for the turn (`mainIn`). No leg of the table has the byte 0. So the bytes of
+-- a route spell its legs: computed over the table, `homing/proofs/Simulation.antt`.
 abbrev byteOf : Leg → ℕ
 byteOf l =
     switchPlace (l .event .switch) (l .forward) + triggerBit (l .event .trigger) + cond (l .forward) 8 0 + cond (l .fast) 16 0

@@ -22,7 +22,8 @@ Z = record { switch = Index; trigger = Rise }
 abbrev pub L : Event
 L = record { switch = LimitAhead; trigger = On }
 
--- B, the drop of the limit behind (02, (i)). A leg that awaits the limit ahead's rise awaits L: it "ends by it being on" (02, (ii)).
+-- B, the drop of the limit behind (02, (i)). The first leg of 17 and 1, which (i) ends by NOT's rise, has L: it "ends by
+-- it being on" (02, (ii)).
 abbrev pub B : Event
 B = record { switch = LimitBehind; trigger = Drop }
 

@@ -1,10 +1,10 @@
-// The legs of every method's routes (01: "Homing routes"; 02, (i)), and when a leg's event counts.
+// The legs of every method's routes (01: "Homing routes"; 02, (i) and (ii)), and when a leg's event counts.
 //
 // A leg is a byte: the place of its switch (0 POT, 1 NOT, 2 HOM, 3 Z), 4 more if it awaits the drop, 8 more if it goes forward, 16 more if it is
 // fast, 32 more if a limit turns it to route b, 64 more if the switch need only be on. A route is a number: a byte for each leg, the first lowest.
 pub mod events;
 
-ghost use Prim.Native.Nat.{_%_, _<_, _^_};
+ghost use Prim.Native.Nat.{_<_, _^_};
 ghost use mathlib.Core.Path.{_≡_};
 ghost use Rattle.counts.specs.Bit.{bitOf};
 ghost use Rattle.legs.specs.Events.{switchesIn};
