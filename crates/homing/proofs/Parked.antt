@@ -50,13 +50,13 @@ limit-met l v h on = rw h on
 
 pub ends-at-limit : EndsAtLimit
 unfolding runningOf
-ends-at-limit m route v k h on e =
-    go (v .kept) (eventCounts (legFrom route) v) (limitCounts (legFrom route) v) k (limit-met (legFrom route) v h on) e
+ends-at-limit m route v h on e =
+    go (v .kept) (eventCounts (legFrom route) v) (limitCounts (legFrom route) v) (limit-met (legFrom route) v h on) e
   where
-    go : (a b c : Bool) → a ≡ true → c ≡ true
+    go : (a b c : Bool) → c ≡ true
         → cond a (cond b (entered (route / 256)) (cond c (limitAt m route) (Running route))) Idle ≡ Running route
         → ⊥
-    go false b c p q s = false≢true p
-    go true true c p q s = by-event route s
-    go true false true p q s = by-limit m route s
-    go true false false p q s = false≢true q
+    go false b c q s = false≢true (ap runningIn s)
+    go true true c q s = by-event route s
+    go true false true q s = by-limit m route s
+    go true false false q s = false≢true q

@@ -8,9 +8,9 @@ use Rattle.legs.specs.Numbers.{forwardIn}
 use Rattle.homing.specs.Phase.{Running}
 use Rattle.homing.specs.Steps.{runningOf}
 
--- in a later tick that is not halted and does not idle homing, with the limit on in the running leg's direction, that leg does not run on
+-- in a later tick that is not halted, with the limit on in the running leg's direction, that leg does not run on
 abbrev pub EndsAtLimit : Type 0
 EndsAtLimit =
-    (method route : ℕ) (v : View) → So (v .kept) → v .halted ≡ false → So (limitAhead (forwardIn route) (v .now))
+    (method route : ℕ) (v : View) → v .halted ≡ false → So (limitAhead (forwardIn route) (v .now))
     → runningOf method route v ≡ Running route
     → ⊥
