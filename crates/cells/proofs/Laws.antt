@@ -74,7 +74,7 @@ cells-past l i x k (suc n) h =
     ap₂ (λ (y : ℕ) (t : List ℕ). y ∷ t) (getD-set-other l i k x 0 (λ e. omega arith)) (cells-past l i x (suc k) n (omega arith))
 
 -- copying leaves the words past it
-pub copied-past : (k j : ℕ) (l : List ℕ) → k < j → wordAt (copied k l) j ≡ wordAt l j
+copied-past : (k j : ℕ) (l : List ℕ) → k < j → wordAt (copied k l) j ≡ wordAt l j
 copied-past zero j l h = refl
 copied-past (suc k) j l h = getD-set-other (copied k l) (suc k) j (wordAt l (16 + k)) 0 (λ e. omega arith) ∙ copied-past k j l (omega arith)
 

@@ -2,8 +2,8 @@
 -- voltage; else bit 2 clear quick stop; else bit 0 clear shutdown; else bit 3 clear switch on; else enable."
 -- Assumes nothing.
 use Prim.Native.Nat.{ℕ}
-use mathlib.Core.Bool.{Bool, cond, not, _&&_}
-use Rattle.counts.specs.Bit.{bitOf}
+use mathlib.Core.Bool.{Bool, cond}
+use Rattle.counts.specs.Bit.{bitOf, rises}
 use Rattle.control.specs.declared.ControlCommand.{ControlCommand}
 use Rattle.control.specs.declared.ControlCommand.the-variants.{Nothing, DisableVoltage, QuickStop, Shutdown, SwitchOn, EnableOperation}
 
@@ -21,4 +21,4 @@ controlCommandOf control =
 
 -- a control bit that is set now and was not in the word before
 abbrev pub bitRises : ℕ → ℕ → ℕ → Bool
-bitRises before control place = bitOf control place && not (bitOf before place)
+bitRises before control place = rises (bitOf before place) (bitOf control place)

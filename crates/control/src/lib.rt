@@ -41,5 +41,5 @@ pub fn control_command(control: u16) -> ControlCommand
 pub fn rising(before: u16, control: u16, place: u32) -> bool
     ensures { λ r. ⌜ r ≡ bitRises before control place ⌝ }
 {
-    counts::bit(control, place) & !counts::bit(before, place)
+    !counts::bit(before, place) & counts::bit(control, place)
 }

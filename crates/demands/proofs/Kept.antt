@@ -114,7 +114,7 @@ module _ (a : Axis) (k : Known) (m : Matches a k) where
   keep (word w) = keep-word w
   keep (tick t) = keep-tick t
 
-pub keep-all : (a : Axis) (k : Known) → Matches a k → (es : List Event) → Matches (axisFrom a es) (knownFrom k es)
+keep-all : (a : Axis) (k : Known) → Matches a k → (es : List Event) → Matches (axisFrom a es) (knownFrom k es)
 keep-all a k m [] = m
 keep-all a k m (e ∷ es) = keep-all (leftBy a e) (next k e) (keep a k m e) es
 

@@ -1,10 +1,10 @@
 // The gear: user units to counts, and whether the position limits are in reach (01: refusal 6).
-mod division;
-
 use settings::Settings;
 ghost use mathlib.Core.Path.{_≡_};
-ghost use Prim.Native.Nat.{_^_, min};
+ghost use Prim.Native.Nat.{_/_, _%_, _^_, _≤_, _<_, min};
+ghost use lib.Signed.{mag};
 ghost use Rattle.counts.specs.Wrap.{wrapped};
+ghost use Rattle.counts.specs.Divide.{floorDiv};
 ghost use Rattle.gears.specs.Gear.{divisorOf, gearedOf, withinReach, inReach};
 
 // A gear's numerator and its denominator are at most 2^20.
@@ -25,12 +25,36 @@ fn divisor(denominator: u32) -> u32
     }
 }
 
+// p over d, modulo 2^32: long division in 32 bits, of all but the low 24 bits first, then of twelve bits at a time. What is left over from the digits
+// above is below d, so that it and the next digit fit. The module divides by software, where three short divisions cost far less than a long one.
+fn quotient(p: u64, d: u32) -> u32
+    requires { ⌜ (p < 2 ^ 56) × (0 < d) × (d ≤ 2 ^ 20) ⌝ }
+    ensures { λ r. ⌜ r ≡ p / d % 2 ^ 32 ⌝ }
+{
+    let top = (p >> 24) as u32;
+    let mid = (top % d) * 0x1000 + ((p >> 12) % 0x1000) as u32;
+    let low = (mid % d) * 0x1000 + (p % 0x1000) as u32;
+    (top / d % 0x100) * 0x1000000 + mid / d * 0x1000 + low / d
+}
+
+// x over d, rounded towards minus infinity, modulo 2^32 and read as signed.
+fn floored(x: i64, d: u32) -> i32
+    requires { ⌜ (mag x < 2 ^ 56) × (0 < d) × (d ≤ 2 ^ 20) ⌝ }
+    ensures { λ r. ⌜ r ≡ wrapped (floorDiv x d) ⌝ }
+{
+    if x >= 0 {
+        counts::wrap(quotient(x as u64, d) as i64)
+    } else {
+        -1 - counts::wrap(quotient((-1 - x) as u64, d) as i64)
+    }
+}
+
 // A position in user units as counts from home, modulo 2^32 and read as signed.
 pub fn geared(s: Settings, position: i32) -> i32
     ensures { λ r. ⌜ r ≡ wrapped (gearedOf s position) ⌝ }
 {
     let units = position as i64 - s.offset as i64;
-    division::floored(units * capped(s.numerator) as i64, divisor(s.denominator))
+    floored(units * capped(s.numerator) as i64, divisor(s.denominator))
 }
 
 // Whether a position's count from home is within 2^30 either way. A quotient, rounded down, is at most 2^30 where it is below

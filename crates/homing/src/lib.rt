@@ -35,7 +35,7 @@ fn at_limit(route: u32, method: u32) -> u32
     if turned == 0 { FAILED } else { turned }
 }
 
-// One tick in a route's first leg. In a halted one nothing counts.
+// One tick in a route's first leg. A halted one asks neither test: both would say no.
 fn run(route: u32, method: u32, seen: Seen) -> u32
     requires { ⌜ runningIn (phaseOf route) ≡ true ⌝ }
     ensures { λ r. ⌜ phaseOf r ≡ runningOf method route (viewOf seen) ⌝ }

@@ -2,7 +2,7 @@
 -- Assumes nothing.
 use Prim.Native.Nat.{ℕ}
 use mathlib.Core.Bool.{Bool, true, false, not, _&&_}
-use Rattle.counts.specs.Bit.{bitOf}
+use Rattle.counts.specs.Bit.{bitOf, rises}
 use Rattle.counts.specs.declared.Movement.{Movement}
 use Rattle.counts.specs.declared.Movement.the-variants.{Backward, Still, Forward}
 use Rattle.legs.specs.declared.events.Switches.{Switches}
@@ -35,9 +35,6 @@ abbrev pub along : Bool → Movement → Bool
 along forward Backward = not forward
 along forward Still = false
 along forward Forward = forward
-
-abbrev pub rises : Bool → Bool → Bool
-rises before now = not before && now
 
 abbrev pub drops : Bool → Bool → Bool
 drops before now = rises now before

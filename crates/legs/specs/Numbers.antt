@@ -1,7 +1,7 @@
 -- A leg as a byte, and a route as a number, a byte a leg, the first one lowest: how the code holds them.
 -- Assumes nothing.
 use Prim.Native.Nat.{ℕ, _+_, _*_, _/_, _%_}
-use mathlib.Core.Bool.{Bool, true, false, cond, _||_}
+use mathlib.Core.Bool.{Bool, true, false, not, cond, _||_}
 use mathlib.Core.List.{List, [], _∷_}
 use mathlib.Core.Option.{Option, none, some}
 use lib.Dec.{eqb}
@@ -18,7 +18,7 @@ abbrev switchPlace : Switch → Bool → ℕ
 switchPlace Home forward = 2
 switchPlace Index forward = 3
 switchPlace LimitAhead forward = aheadPlace forward
-switchPlace LimitBehind forward = cond forward 1 0
+switchPlace LimitBehind forward = aheadPlace (not forward)
 
 abbrev triggerBit : Trigger → ℕ
 triggerBit Rise = 0
@@ -33,7 +33,7 @@ byteOf l =
     switchPlace (l .event .switch) (l .forward) + triggerBit (l .event .trigger) + cond (l .forward) 8 0 + cond (l .fast) 16 0
 
 -- 0 is a route with no leg
-abbrev pub routeNumber : List Leg → ℕ
+abbrev routeNumber : List Leg → ℕ
 routeNumber [] = 0
 routeNumber (l ∷ ls) = byteOf l + 256 * routeNumber ls
 

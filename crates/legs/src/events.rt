@@ -3,9 +3,9 @@ use counts::Movement;
 ghost use mathlib.Core.Path.{_≡_};
 ghost use mathlib.Core.Bool.{true};
 ghost use Prim.Native.Nat.{_%_, _<_};
-ghost use Rattle.counts.specs.Bit.{bitOf};
+ghost use Rattle.counts.specs.Bit.{bitOf, rises};
 ghost use Rattle.legs.specs.Numbers.{edgeIn, triggerIn, legFrom};
-ghost use Rattle.legs.specs.Events.{along, rises, happens, limitAhead, switchesIn, viewOf, eventCounts, limitCounts};
+ghost use Rattle.legs.specs.Events.{along, happens, limitAhead, switchesIn, viewOf, eventCounts, limitCounts};
 
 // The four switches (01: POT, NOT, HOM, Z).
 pub struct Switches {
@@ -28,8 +28,7 @@ pub fn negative_on(switches: u32) -> bool
     switches / 2 % 2 == 1
 }
 
-// What homing sees of one tick after the start. kept: control bit 4 is set, homing is matched and the new state is Operation enabled;
-// before and now: the remembered switches and this tick's, as bits.
+// What homing sees of one tick after the start (`View`), with the switches as bits.
 pub struct Seen {
     pub kept: bool,
     pub halted: bool,

@@ -32,7 +32,7 @@ freshText = ascii "fresh\n"
 abbrev pub wordText : ℕ → List ℕ
 wordText n = ascii "word " ++ decimal n ++ tradeWord n
 
--- "tick N torque T speed V position P status SSSS mode M alarm A"
+-- a tick's answer up to its position
 unfoldable pub motionText : Answer → List ℕ
 motionText a =
     (ascii "tick " ++ decimal (a .number))
@@ -40,6 +40,7 @@ motionText a =
     ++ (ascii " speed " ++ whole (a .speed))
     ++ (ascii " position " ++ whole (a .position))
 
+-- "tick N torque T speed V position P status SSSS mode M alarm A"
 unfoldable pub tickText : Answer → List ℕ
 tickText a =
     motionText a

@@ -8,11 +8,10 @@ use Rattle.reader.specs.Pending.{Pending, Reading, Outcome, Refused, Stored, Co
 use Rattle.reader.specs.Read.{emptyPending, readOf}
 use Rattle.reader.proofs.Accepted.{ReadBy, refuses, accepted, begins, keeps, closes, read-by}
 use Rattle.states.specs.States.{liveOf}
-use Rattle.ticks.specs.declared.Tick.{Tick}
 use Rattle.answers.specs.Answer.{answerIn, answeredIn}
 use Rattle.rules.specs.Axis.{Active, Nothing, Set, Axis}
 use Rattle.rules.specs.Word.{withPending, taken, wordOf}
-use Rattle.rules.specs.Tick.{tickUnder, tickOf}
+use Rattle.rules.specs.Tick.{tickOf}
 use Rattle.rules.specs.Refused.{RefusedWords, RefusedTick, RefusedTicks, Unseen, PendingUnseen}
 
 -- a word that is not stored leaves nothing pending

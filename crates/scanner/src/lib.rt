@@ -93,7 +93,7 @@ pub fn hexadecimal8(text: &[u8], cursor: Cursor) -> NumberRead
 
 // 1 to 10 decimal digits with no sign, below 2^32.
 pub fn unsigned(text: &[u8], cursor: Cursor) -> NumberRead
-    ensures { λ r. ⌜ r ≡ numberAt (unsigned32Of) Expected.Whole (now (text .entry)) cursor ⌝ }
+    ensures { λ r. ⌜ r ≡ numberAt unsigned32Of Expected.Whole (now (text .entry)) cursor ⌝ }
 {
     let word = tokens::next(text, cursor.at);
     let start = word.start;
@@ -108,7 +108,7 @@ pub fn unsigned(text: &[u8], cursor: Cursor) -> NumberRead
 
 // LENGTH, of a buffer that is lent.
 pub fn length(text: &[u8], cursor: Cursor) -> NumberRead
-    ensures { λ r. ⌜ r ≡ numberAt (lengthOf) Expected.Whole (now (text .entry)) cursor ⌝ }
+    ensures { λ r. ⌜ r ≡ numberAt lengthOf Expected.Whole (now (text .entry)) cursor ⌝ }
     ensures { λ r. ⌜ r .value < 33 ⌝ }
 {
     let word = tokens::next(text, cursor.at);

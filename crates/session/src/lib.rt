@@ -93,7 +93,7 @@ impl Session {
         }
     }
 
-    // A line, without its end, and its answer.
+    // A line, without its end, and its answer. One beyond 255 bytes is for `long_line`.
     pub fn line(self, line: &[u8], out: &mut [u8]) -> Turn
         ensures { λ r. ⌜ Answers (now (out .entry)) (now (out .exit)) r (conversationAfter (counted (meant self)) (lineOf (now (line .entry)))) (textOf (counted (meant self)) (lineOf (now (line .entry)))) ⌝ }
     {

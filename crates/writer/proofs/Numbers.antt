@@ -5,9 +5,9 @@ use mathlib.Core.Bool.{Bool, true, false, cond}
 use borrow.Author.Tests.{le-ltb}
 use lib.ListN.{length}
 use Rattle.settings.specs.declared.Refusal.the-variants.{BufferTooShort}
-use Rattle.settings.specs.declared.Verdict.the-variants.{Accepted, Refused}
+use Rattle.settings.specs.declared.Verdict.the-variants.{Refused}
 use Rattle.settings.specs.Refusal.{verdictNumber, firstOf}
-use Rattle.checks.specs.Check.{acceptable, verdictOf}
+use Rattle.checks.specs.Check.{verdictOf}
 use Rattle.checks.specs.Cases as checks
 use Rattle.checks.proofs.Numbers.{check-number, accepts}
 use Rattle.writer.specs.Write.{bufferTooShort, writeVerdict}

@@ -1,9 +1,9 @@
--- `gears::division::quotient` meets its contract: what is left over is below d, and each digit of the quotient below 2 ^ 12.
+-- `gears::quotient` meets its contract: what is left over is below d, and each digit of the quotient below 2 ^ 12.
 -- Assumes nothing.
 use Rattle.gears.proofs.Digits.{steps-fit, three-steps}
 use borrow.Author.Needs.{needs}
-use Rattle.gears.proofs.division.quotient.Statement.{statement}
-use Rattle.gears.proofs.division.quotient.Tie as tie
+use Rattle.gears.proofs.quotient.Statement.{statement}
+use Rattle.gears.proofs.quotient.Tie as tie
 
 cast-top : tie.Need-cast-top
 cast-top c = search needs

@@ -1,4 +1,4 @@
--- `gears::division::floored` meets its contract: either way `mag x` is divided, and −1 less a number turns x and the quotient.
+-- `gears::floored` meets its contract: either way `mag x` is divided, and −1 less a number turns x and the quotient.
 -- Assumes nothing.
 use Prim.Native.Nat.{ℕ, _/_, _%_, _^_, _<_}
 use mathlib.Core.Path.{_≡_, refl, sym, ap, subst, _∙_}
@@ -16,8 +16,8 @@ use Rattle.counts.specs.Divide.{floorDiv}
 use Rattle.counts.specs.Wrap.{wrapped}
 use Rattle.counts.proofs.Integers.{read-unsigned, mag-sub, mirror-down, mirror-fits}
 use Rattle.counts.proofs.Modulo.{wrapped-low, wrapped-mirror}
-use Rattle.gears.proofs.division.floored.Statement.{statement}
-use Rattle.gears.proofs.division.floored.Tie as tie
+use Rattle.gears.proofs.floored.Statement.{statement}
+use Rattle.gears.proofs.floored.Tie as tie
 
 up : (x : ℤ) → leZ (pos 0) x ≡ true → x ≡ pos (mag x)
 up (pos n) t = refl
