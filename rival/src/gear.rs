@@ -1,12 +1,28 @@
-//! From user units to counts.
+//! From user units to counts, by two ways to the same count: one in 32 bits, and one in 64 for what is too wide for it.
 
 use crate::sheet::Sheet;
 
+/// "clamp the target to the stops"
+fn clamped(sheet: &Sheet, target: i32) -> i32 {
+    target.clamp(sheet.lower_stop(), sheet.upper_stop())
+}
+
+/// The narrow gear, "with no wider number in it": nothing is "too wide", said exactly where "the clamped target less offset"
+/// or "the product" does not fit 32 bits signed; else the count without home.
+///
+/// The denominator is positive, so `div_euclid` rounds towards minus infinity.
+pub fn narrow(sheet: &Sheet, target: i32) -> Option<i32> {
+    let difference = clamped(sheet, target).checked_sub(sheet.offset())?;
+    let product = difference.checked_mul(sheet.numerator())?;
+    Some(product.div_euclid(sheet.denominator()))
+}
+
 /// "subtract offset, times numerator, over denominator, rounded towards minus infinity", without home.
 ///
-/// At most 2^28 times 2^20, so 64 bits hold it. The denominator is positive, so `div_euclid` rounds towards minus infinity.
-pub fn counts(sheet: &Sheet, place: i64) -> i64 {
-    ((place - sheet.offset()) * sheet.numerator()).div_euclid(sheet.denominator())
+/// At most 2^28 times 2^20, so 64 bits hold it.
+pub fn counts(sheet: &Sheet, place: i32) -> i64 {
+    let difference = i64::from(place) - i64::from(sheet.offset());
+    (difference * i64::from(sheet.numerator())).div_euclid(i64::from(sheet.denominator()))
 }
 
 /// A target that is followed.
@@ -17,10 +33,8 @@ pub struct Followed {
 
 /// "clamp the target to the stops, [gear it], added to home modulo 2^32 (signed)"
 pub fn follow(sheet: &Sheet, home: i32, target: i32) -> Followed {
-    let wanted = i64::from(target);
-    let place = wanted.clamp(sheet.lower_stop(), sheet.upper_stop());
-    Followed {
-        position: home.wrapping_add(counts(sheet, place) as i32), // within ±2^30: the stops are in reach
-        clamped: place != wanted,
-    }
+    let place = clamped(sheet, target);
+    // A wide count is within ±2^30 all the same: the stops are in reach.
+    let count = narrow(sheet, target).unwrap_or_else(|| counts(sheet, place) as i32);
+    Followed { position: home.wrapping_add(count), clamped: place != target }
 }

@@ -47,8 +47,8 @@ pub fn word(kind: u32, data: u32) -> u32 {
 }
 
 /// "two's complement over 28 bits"
-pub fn signed(data: u32) -> i64 {
-    i64::from((data << 4) as i32 >> 4)
+pub fn signed(data: u32) -> i32 {
+    (data << 4) as i32 >> 4
 }
 
 /// Refusal 3's question for the kinds 1 to 13. Start and end words have tests of their own.
@@ -119,23 +119,23 @@ impl Sheet {
         self.carried(SLOW) as i32
     }
 
-    pub fn offset(&self) -> i64 {
+    pub fn offset(&self) -> i32 {
         signed(self.carried(OFFSET))
     }
 
-    pub fn numerator(&self) -> i64 {
-        i64::from(self.carried(NUMERATOR))
+    pub fn numerator(&self) -> i32 {
+        self.carried(NUMERATOR) as i32
     }
 
-    pub fn denominator(&self) -> i64 {
-        i64::from(self.carried(DENOMINATOR))
+    pub fn denominator(&self) -> i32 {
+        self.carried(DENOMINATOR) as i32
     }
 
-    pub fn lower_stop(&self) -> i64 {
+    pub fn lower_stop(&self) -> i32 {
         signed(self.carried(LOWER_STOP))
     }
 
-    pub fn upper_stop(&self) -> i64 {
+    pub fn upper_stop(&self) -> i32 {
         signed(self.carried(UPPER_STOP))
     }
 
@@ -171,7 +171,7 @@ impl Sheet {
         if self.lower_stop() >= self.upper_stop() {
             return Err(Refusal::StopsCrossed);
         }
-        let beyond = |stop: i64| gear::counts(self, stop).abs() > REACH;
+        let beyond = |stop: i32| gear::counts(self, stop).abs() > REACH;
         if beyond(self.lower_stop()) || beyond(self.upper_stop()) {
             return Err(Refusal::OutOfReach);
         }

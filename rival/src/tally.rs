@@ -1,5 +1,6 @@
 //! What a script reaches, told line by line by the rival's own view.
 
+mod gears;
 mod needed;
 mod settings;
 mod text;

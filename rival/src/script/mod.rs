@@ -1,5 +1,6 @@
 //! Writing test scripts that get somewhere: the script follows the axis along and steers it by the state it is in.
 
+mod gears;
 mod homing;
 mod sheets;
 mod states;
@@ -75,6 +76,7 @@ enum Scene {
     AlarmNumbers,
     Faults,
     Follow,
+    Gears,
     Requests,
     Hybrids,
     WriterEdges,
@@ -98,6 +100,7 @@ fn scenes() -> Vec<Scene> {
         Scene::AlarmNumbers,
         Scene::Faults,
         Scene::Follow,
+        Scene::Gears,
         Scene::Requests,
         Scene::Hybrids,
         Scene::WriterEdges,
@@ -177,6 +180,7 @@ impl<W: Write> Script<W> {
             Scene::AlarmNumbers => self.alarm_numbers(),
             Scene::Faults => self.faults(),
             Scene::Follow => self.follow_targets(),
+            Scene::Gears => self.gears(),
             Scene::Requests => self.request_torques(),
             Scene::Hybrids => self.hybrids(),
             Scene::WriterEdges => self.writer_edges(),

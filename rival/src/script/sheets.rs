@@ -38,7 +38,7 @@ struct Edge {
 }
 
 /// Offset and stops lie from minus this to one below this.
-const PLACE: i64 = 1 << 27;
+pub(super) const PLACE: i64 = 1 << 27;
 
 const EDGES: [Edge; 15] = [
     Edge { field: |s| &mut s.method, least: 1, most: 35 },
@@ -65,6 +65,11 @@ fn words_of(settings: &Settings) -> [u32; LENGTH] {
     settings.words().expect("the scene's settings are in range")
 }
 
+/// In range, the stops sound.
+pub(super) fn is_acceptable(settings: &Settings) -> bool {
+    writer::write(settings, &mut [0; LENGTH]).is_ok()
+}
+
 /// Every field at its least or its most, but for the stops: they lie at either end, so as not to cross.
 fn at_edge(least: bool) -> Settings {
     let mut settings = sheet_s();
@@ -77,7 +82,7 @@ fn at_edge(least: bool) -> Settings {
 }
 
 impl<W: Write> Script<W> {
-    /// Settings that any sheet may hold: in range, the stops sound.
+    /// Settings that any sheet may hold.
     pub(super) fn any_settings(&mut self) -> Settings {
         loop {
             let random = &mut self.random;
@@ -116,7 +121,7 @@ impl<W: Write> Script<W> {
                 quick_stop_option: random.pick(&[2, 6]),
                 rated_torque: random.pick(&[1, 2000, 3000, 1000, 12345, 1 << 24]),
             };
-            if writer::write(&settings, &mut [0; LENGTH]).is_ok() {
+            if is_acceptable(&settings) {
                 return settings;
             }
         }

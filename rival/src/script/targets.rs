@@ -87,19 +87,27 @@ impl Slip {
 }
 
 impl<W: Write> Script<W> {
-    /// Homed by method 35, then targets inside, on and beyond the stops; then the three reasons not to follow.
+    pub(super) fn any_home(&mut self) -> i32 {
+        self.random.pick(&[0, 0, i32::MAX - 4, i32::MIN + 4, -77])
+    }
+
+    /// Takes the settings over, but for the method, and is homed by method 35.
+    pub(super) fn home_under(&mut self, settings: &Settings, home: i32) {
+        self.take_over(&Settings { method: 35, ..settings.clone() });
+        self.now.command = "position 1 0".to_string();
+        self.reach(OperationEnabled);
+        self.tick_with(0x000F, "position 5 0", true); // not homed
+        self.now.position = home;
+        self.now.switches = Default::default();
+        self.tick_with(0x000F, "homing 0", true);
+        self.tick_with(0x001F, "homing 0", true);
+    }
+
+    /// Homed, then targets inside, on and beyond the stops; then the three reasons not to follow.
     pub(super) fn follow_targets(&mut self) {
-        let any_home = self.random.pick(&[0, 0, i32::MAX - 4, i32::MIN + 4, -77]);
+        let any_home = self.any_home();
         for (settings, home) in [(sheet_s(), i32::MAX - 4), (self.any_settings(), any_home)] {
-            let settings = Settings { method: 35, ..settings };
-            self.take_over(&settings);
-            self.now.command = "position 1 0".to_string();
-            self.reach(OperationEnabled);
-            self.tick_with(0x000F, "position 5 0", true); // not homed
-            self.now.position = home;
-            self.now.switches = Default::default();
-            self.tick_with(0x000F, "homing 0", true);
-            self.tick_with(0x001F, "homing 0", true);
+            self.home_under(&settings, home);
             let (lower, upper) = (settings.lower_stop, settings.upper_stop);
             let inside = self.random.between(lower, upper);
             let targets = [5, -5, lower - 1, lower, lower + 1, upper - 1, upper, upper + 1, inside, 1001, 1000];

@@ -1,5 +1,6 @@
 //! Everything a script is to reach, by name.
 
+use super::gears::{BY_BOTH, EDGES as GEAR_EDGES, ON_EDGE};
 use super::refused;
 use super::settings::{can_hold, EDGES, FIELDS, INNER_METHODS};
 use super::text::{EXPECTED, FLOAT_SHAPES};
@@ -119,9 +120,20 @@ const SINGLE: &[&str] = &[
     "target between the stops",
     "target on the upper stop",
     "target clamped to the upper stop",
-    "target rounded down from below zero",
-    "target rounded down from above zero",
     "target wraps across 2^31",
+    "narrow gear: denominator 1",
+    "narrow gear: wide without the offset",
+    "narrow gear: wide without the clamp",
+    "wide gear: denominator 2",
+    "wide gear: narrow without the offset",
+    "wide gear: narrow without the clamp",
+    "wide gear: 16 bits times 16 bits, above zero",
+    "wide gear: 16 bits times 16 bits, below zero",
+    "wide gear: the least count above zero",
+    "wide gear: the least count below zero",
+    "wide gear: the low half is 0",
+    "wide gear: the low half is above zero as well",
+    "wide gear: the low half is below zero as well",
     "torque: the demand itself",
     "torque: the demand on its limit",
     "torque: positive limit of set 1 holds",
@@ -155,6 +167,7 @@ pub(super) fn names() -> Vec<String> {
     names.extend(states());
     names.extend(commands());
     names.extend(homing());
+    names.extend(gears());
     names
 }
 
@@ -264,5 +277,16 @@ fn homing() -> Vec<String> {
     names.extend(["A", "B", "C", "OffLimit", "OnLimit", "Sole"].map(|way| format!("homing error, route {way}")));
     let left = [SwitchedOn, Ready, SwitchOnDisabled, QuickStopActive, FaultReaction];
     names.extend(left.map(|state| format!("idled: state {state:?}")));
+    names
+}
+
+fn gears() -> Vec<String> {
+    let mut names = Vec::new();
+    for gear in ["narrow gear", "wide gear"] {
+        names.extend(BY_BOTH.map(|what| format!("{gear}: {what}")));
+    }
+    for (edge, _) in GEAR_EDGES {
+        names.extend(ON_EDGE.map(|what| format!("{edge}: {what}")));
+    }
     names
 }

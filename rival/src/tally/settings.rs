@@ -53,7 +53,7 @@ fn carried(kind: u32, data: u32) -> Vec<(usize, i64)> {
         sheet::METHOD..=sheet::SLOW | sheet::NUMERATOR | sheet::DENOMINATOR | sheet::MAXIMUM_TORQUE => {
             vec![(kind as usize - 1, value)]
         }
-        sheet::OFFSET | sheet::LOWER_STOP | sheet::UPPER_STOP => vec![(kind as usize - 1, sheet::signed(data))],
+        sheet::OFFSET | sheet::LOWER_STOP | sheet::UPPER_STOP => vec![(kind as usize - 1, sheet::signed(data).into())],
         sheet::LIMIT_SET_1 => vec![(9, value & 0x3FFF), (10, value >> 14)],
         sheet::LIMIT_SET_2 => vec![(11, value & 0x3FFF), (12, value >> 14)],
         sheet::QUICK_STOP_OPTION => vec![(13, value)],

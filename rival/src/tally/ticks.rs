@@ -5,6 +5,7 @@ use crate::axis::Axis;
 use crate::command::Command;
 use crate::control_word::{ControlWord, FAULT_RESET, HALT, HOMING_START};
 use crate::drive_state::DriveState::{self, *};
+use crate::gear;
 use crate::homing::{decider, Event, Homing, Leg, Moment, Way, ON_LIMITS};
 use crate::hybrid::Hybrid;
 use crate::sheet::{LimitSet, Sheet};
@@ -325,19 +326,15 @@ impl Tally {
         self.saw_if(enabled && !self.matched(tick), "target not followed: not matched");
         self.saw_if(!enabled && self.matched(tick), "target not followed: not enabled");
         if enabled && self.matched(tick) {
-            let target = i64::from(target);
             let (lower, upper) = (sheet.lower_stop(), sheet.upper_stop());
             self.saw_if(target < lower, "target clamped to the lower stop");
             self.saw_if(target == lower, "target on the lower stop");
             self.saw_if(lower < target && target < upper, "target between the stops");
             self.saw_if(target == upper, "target on the upper stop");
             self.saw_if(target > upper, "target clamped to the upper stop");
-            let numerator = (target.clamp(lower, upper) - sheet.offset()) * sheet.numerator();
-            let inexact = numerator % sheet.denominator() != 0;
-            self.saw_if(inexact && numerator < 0, "target rounded down from below zero");
-            self.saw_if(inexact && numerator > 0, "target rounded down from above zero");
-            let counts = numerator.div_euclid(sheet.denominator());
+            let counts = gear::counts(sheet, target.clamp(lower, upper));
             self.saw_if(i64::from(home) + counts != i64::from(answer.position), "target wraps across 2^31");
+            self.saw_gear(sheet, target);
         }
     }
 
