@@ -12,7 +12,19 @@ pub const SHEET: [u32; 15] = [
 /// Its fields, in the order of the settings struct.
 pub const FIELDS: [u32; 15] = [23, 20000, 1000, 0, 3, 2, -1000i32 as u32, 1000, 1000, 800, 600, 300, 300, 2, 2000];
 
-pub const NAMES: [&str; 16] = [
+/// S with other data in the words of these kinds, and the sum to match.
+fn sheet_with(changes: &[(usize, u32)]) -> [u32; 15] {
+    const DATA: u32 = 0x0FFF_FFFF;
+    let mut sheet = SHEET;
+    for &(kind, data) in changes {
+        sheet[kind] = (kind as u32) << 28 | data & DATA;
+    }
+    let sum: u32 = sheet[..14].iter().map(|word| word & DATA).sum();
+    sheet[14] = 15 << 28 | sum & DATA;
+    sheet
+}
+
+pub const NAMES: [&str; 17] = [
     "settings word: start",
     "settings word: one between, mean of 13",
     "settings word: end, takes over",
@@ -21,7 +33,8 @@ pub const NAMES: [&str; 16] = [
     "tick: rest",
     "tick: torque",
     "tick: position, not homed",
-    "tick: position, followed",
+    "tick: position, followed, narrow gear",
+    "tick: position, followed, wide gear",
     "tick: hybrid",
     "tick: homing, not started",
     "tick: homing start",
@@ -68,15 +81,25 @@ fn route(n: usize) -> Vec<Event> {
     ticks(ROUTE[..n].iter().map(|&(position, switches)| homing(position, switches)))
 }
 
+/// How many times longer than under S a rail is on which every target is too wide for the narrow gear.
+const RAIL: i32 = 134_000;
+
+/// S for that rail. The offset keeps every target away from where the difference is 0.
+fn long_rail() -> [u32; 15] {
+    let (lower, upper) = (-1000 * RAIL, 1000 * RAIL);
+    sheet_with(&[(4, 1_000_000), (5, 10_000), (6, 9_999), (7, lower as u32), (8, upper as u32)])
+}
+
 pub fn rows() -> [Row; NAMES.len()] {
-    let sheet = words(&SHEET);
-    let enabled = then(&sheet, &ticks([SHUTDOWN, SHUTDOWN, ENABLE, ENABLE].map(|control| Tick { control, ..STILL })));
+    let enabling = ticks([SHUTDOWN, SHUTDOWN, ENABLE, ENABLE].map(|control| Tick { control, ..STILL }));
+    let enabled = then(&words(&SHEET), &enabling);
     let homed = then(&enabled, &route(5));
+    let homed_on_rail = then(&then(&words(&long_rail()), &enabling), &route(5));
     let many = |f: &dyn Fn(i32) -> Tick| ticks((0..100).map(f));
     let row = |before: &[Event], counted: Vec<Event>| Row { before: before.to_vec(), counted };
     let none = [];
     let gains = |i: i32| Gains { kp: 2.0, kd: 0.1, pd: 0.5, vd: 0.0, t: 0.1, p: i as f32 * 0.01, v: 0.2 };
-    let position = |i: i32| Command::Position(i * 23 - 1150, 100);
+    let position = |i: i32, unit: i32| Command::Position((i * 23 - 1150) * unit, 100);
     [
         row(&none, words(&[SHEET[0]; 100])),
         row(&words(&SHEET[..1]), words(&SHEET[1..14])),
@@ -85,8 +108,9 @@ pub fn rows() -> [Row; NAMES.len()] {
         row(&none, many(&|_| STILL)),
         row(&homed, many(&|i| Tick { position: 103 + i, ..STILL })),
         row(&homed, many(&|i| Tick { command: Command::Torque(i as i16 * 20 - 1000), set: i as u8 & 1, ..STILL })),
-        row(&enabled, many(&|i| Tick { command: position(i), ..STILL })),
-        row(&homed, many(&|i| Tick { command: position(i), ..STILL })),
+        row(&enabled, many(&|i| Tick { command: position(i, 1), ..STILL })),
+        row(&homed, many(&|i| Tick { command: position(i, 1), ..STILL })),
+        row(&homed_on_rail, many(&|i| Tick { command: position(i, RAIL), ..STILL })),
         row(&homed, many(&|i| Tick { command: Command::Hybrid(gains(i)), ..STILL })),
         row(&homed, many(&|_| Tick { command: Command::Homing(100), ..STILL })),
         row(&enabled, route(1)),
@@ -131,10 +155,7 @@ fn storm_command(seed: &mut u32) -> Command {
 
 /// Hybrid ticks under S with another rated torque: one of the storm, then five tame ones, which end a fault and enable again.
 pub fn storm(rated: u32) -> Row {
-    let mut sheet = SHEET;
-    let sum = sheet[14] - (sheet[13] & 0x0FFF_FFFF) + rated;
-    sheet[13] = 0xD000_0000 | rated;
-    sheet[14] = 0xF000_0000 | sum & 0x0FFF_FFFF;
+    let sheet = sheet_with(&[(13, rated)]);
     let tame = Command::Hybrid(Gains { kp: 2.0, kd: 0.1, pd: 0.5, vd: 0.0, t: 0.1, p: 0.3, v: 0.2 });
     let enabling = [0x00, 0x80, SHUTDOWN, ENABLE, ENABLE].map(|control| Tick { control, command: tame, ..STILL });
     let mut seed = 402;

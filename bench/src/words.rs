@@ -1,6 +1,6 @@
 //! Events and answers as plain words, and the baseline's calls over them: the layout of `c/axis.h`, for both sides.
 
-use crate::baseline::{self, Answer, Axis, Command, Gains, Limits, Settings, Tick};
+use crate::baseline::{self, Answer, Axis, Command, Gains, Gear, Limits, Settings, Tick};
 
 /// An event is seven words and seven floats, an answer seven words.
 pub const WIDTH: usize = 7;
@@ -99,6 +99,11 @@ pub unsafe extern "C" fn baseline_write(settings: &Settings, buffer: *mut u32, l
     baseline::write_sheet(settings, std::slice::from_raw_parts_mut(buffer, length)) as u32
 }
 
+/// The gear among the fifteen fields.
+fn gear(f: &[u32; 15]) -> Gear {
+    Gear { offset: f[3] as i32, numerator: f[4], denominator: f[5], lower: f[6] as i32, upper: f[7] as i32 }
+}
+
 /// Fifteen fields as the baseline's settings. One beyond its width becomes the greatest of that width, which is out of range as well.
 pub fn settings(f: &[u32; 15]) -> Settings {
     let byte = |field: u32| field.min(u8::MAX.into()) as u8;
@@ -107,11 +112,7 @@ pub fn settings(f: &[u32; 15]) -> Settings {
     Settings {
         fast: f[1],
         slow: f[2],
-        offset: f[3] as i32,
-        numerator: f[4],
-        denominator: f[5],
-        lower: f[6] as i32,
-        upper: f[7] as i32,
+        gear: gear(f),
         rated: f[14],
         maximum: half(f[8]),
         limits: [limits(f[9], f[10]), limits(f[11], f[12])],
@@ -127,4 +128,26 @@ pub fn settings(f: &[u32; 15]) -> Settings {
 #[no_mangle]
 pub unsafe extern "C" fn baseline_sheet(fields: &[u32; 15], buffer: *mut u32, length: usize) -> u32 {
     baseline_write(&settings(fields), buffer, length)
+}
+
+/// The narrow gear alone, without home: 1, or 0 where it is too wide and the count is left alone.
+#[no_mangle]
+#[inline(never)]
+pub extern "C" fn baseline_narrow_gear(fields: &[u32; 15], target: i32, count: &mut i32) -> u32 {
+    let gear = gear(fields);
+    match gear.narrow(gear.clamp(target)) {
+        Some(geared) => {
+            *count = geared;
+            1
+        }
+        None => 0,
+    }
+}
+
+/// The wide gear alone, without home.
+#[no_mangle]
+#[inline(never)]
+pub extern "C" fn baseline_wide_gear(fields: &[u32; 15], target: i32) -> i32 {
+    let gear = gear(fields);
+    gear.wide(gear.clamp(target)) as i32
 }

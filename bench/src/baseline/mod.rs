@@ -2,9 +2,11 @@
 //! numbers, the axis is changed in place, and nothing is computed twice. What proved code costs is measured against it.
 
 mod drive;
+mod gear;
 mod homing;
 mod settings;
 
+pub use gear::Gear;
 pub use settings::{write_sheet, Limits, Settings};
 
 use drive::{OPERATION_ENABLED, QUICK_STOP_ACTIVE};
@@ -193,17 +195,12 @@ pub fn tick(axis: &mut Axis, t: &Tick) -> Answer {
     }
     match target {
         Some(to) if matched && enabled && homed => {
-            let near = if to < s.lower {
+            let near = s.gear.clamp(to);
+            if near != to {
                 status |= 1 << 11;
-                s.lower
-            } else if to > s.upper {
-                status |= 1 << 11;
-                s.upper
-            } else {
-                to
-            };
+            }
             status |= 1 << 12;
-            position = axis.home.wrapping_add(s.geared(near) as i32);
+            position = axis.home.wrapping_add(s.gear.geared(near));
         }
         _ => (),
     }

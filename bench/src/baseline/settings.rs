@@ -1,5 +1,7 @@
 //! Settings, and the words that carry them.
 
+use super::gear::Gear;
+
 const DATA: u32 = (1 << 28) - 1;
 
 /// Outcome of an end word whose settings are sound.
@@ -16,11 +18,7 @@ pub struct Limits {
 pub struct Settings {
     pub fast: u32,
     pub slow: u32,
-    pub offset: i32,
-    pub numerator: u32,
-    pub denominator: u32,
-    pub lower: i32,
-    pub upper: i32,
+    pub gear: Gear,
     pub rated: u32,
     pub maximum: u16,
     pub limits: [Limits; 2],
@@ -57,11 +55,7 @@ impl Settings {
     pub const NONE: Settings = Settings {
         fast: 0,
         slow: 0,
-        offset: 0,
-        numerator: 0,
-        denominator: 1,
-        lower: 0,
-        upper: 0,
+        gear: Gear { offset: 0, numerator: 0, denominator: 1, lower: 0, upper: 0 },
         rated: 1,
         maximum: 0,
         limits: [Limits { positive: 0, negative: 0 }; 2],
@@ -69,23 +63,13 @@ impl Settings {
         option: 2,
     };
 
-    /// A position as a count from home, rounded towards minus infinity.
-    pub fn geared(&self, position: i32) -> i64 {
-        let product = (position - self.offset) as i64 * self.numerator as i64;
-        let quotient = product / self.denominator as i64;
-        if product % (self.denominator as i64) < 0 {
-            quotient - 1
-        } else {
-            quotient
-        }
-    }
-
     /// 0, or 5 or 6.
     fn check_limits(&self) -> u8 {
         const REACH: std::ops::RangeInclusive<i64> = -(1 << 30)..=1 << 30;
-        if self.lower >= self.upper {
+        let gear = &self.gear;
+        if gear.lower >= gear.upper {
             5
-        } else if !REACH.contains(&self.geared(self.lower)) || !REACH.contains(&self.geared(self.upper)) {
+        } else if !REACH.contains(&gear.wide(gear.lower)) || !REACH.contains(&gear.wide(gear.upper)) {
             6
         } else {
             0
@@ -96,11 +80,11 @@ impl Settings {
         method_ok(self.method as u32)
             && self.fast.wrapping_sub(1) < DATA
             && self.slow.wrapping_sub(1) < DATA
-            && position_ok(self.offset)
-            && ratio_ok(self.numerator)
-            && ratio_ok(self.denominator)
-            && position_ok(self.lower)
-            && position_ok(self.upper)
+            && position_ok(self.gear.offset)
+            && ratio_ok(self.gear.numerator)
+            && ratio_ok(self.gear.denominator)
+            && position_ok(self.gear.lower)
+            && position_ok(self.gear.upper)
             && torque_ok(self.maximum as u32)
             && self.limits.iter().all(|l| torque_ok(l.positive as u32) && torque_ok(l.negative as u32))
             && (self.option == 2 || self.option == 6)
@@ -149,23 +133,23 @@ impl Pending {
                 data != 0
             }
             4 => {
-                s.offset = position(data);
+                s.gear.offset = position(data);
                 true
             }
             5 => {
-                s.numerator = data;
+                s.gear.numerator = data;
                 ratio_ok(data)
             }
             6 => {
-                s.denominator = data;
+                s.gear.denominator = data;
                 ratio_ok(data)
             }
             7 => {
-                s.lower = position(data);
+                s.gear.lower = position(data);
                 true
             }
             8 => {
-                s.upper = position(data);
+                s.gear.upper = position(data);
                 true
             }
             9 => {
@@ -222,11 +206,11 @@ pub fn write_sheet(s: &Settings, buffer: &mut [u32]) -> u8 {
         s.method as u32,
         s.fast,
         s.slow,
-        s.offset as u32 & DATA,
-        s.numerator,
-        s.denominator,
-        s.lower as u32 & DATA,
-        s.upper as u32 & DATA,
+        s.gear.offset as u32 & DATA,
+        s.gear.numerator,
+        s.gear.denominator,
+        s.gear.lower as u32 & DATA,
+        s.gear.upper as u32 & DATA,
         s.maximum as u32,
         limits(&s.limits[0]),
         limits(&s.limits[1]),

@@ -2,7 +2,7 @@
 
 use std::io::{self, BufWriter, Write};
 
-use bench::baseline::{self, Axis, Limits, Settings};
+use bench::baseline::{self, Axis, Gear, Limits, Settings};
 use bench::lines::tick;
 use rival::lines::{self, next_text, Line};
 use rival::{answers, refusal::Refusal, writer};
@@ -43,11 +43,13 @@ fn settings(s: &writer::Settings) -> Option<Settings> {
     Some(Settings {
         fast: s.fast.try_into().ok()?,
         slow: s.slow.try_into().ok()?,
-        offset: s.offset.try_into().ok()?,
-        numerator: s.numerator.try_into().ok()?,
-        denominator: s.denominator.try_into().ok()?,
-        lower: s.lower_stop.try_into().ok()?,
-        upper: s.upper_stop.try_into().ok()?,
+        gear: Gear {
+            offset: s.offset.try_into().ok()?,
+            numerator: s.numerator.try_into().ok()?,
+            denominator: s.denominator.try_into().ok()?,
+            lower: s.lower_stop.try_into().ok()?,
+            upper: s.upper_stop.try_into().ok()?,
+        },
         rated: s.rated_torque.try_into().ok()?,
         maximum: s.maximum_torque.try_into().ok()?,
         limits: [limits(s.positive_1, s.negative_1)?, limits(s.positive_2, s.negative_2)?],

@@ -72,7 +72,7 @@ macro_rules! callers {
     };
 }
 
-callers!(row0 row1 row2 row3 row4 row5 row6 row7 row8 row9 row10 row11 row12 row13 row14 row15 row16);
+callers!(row0 row1 row2 row3 row4 row5 row6 row7 row8 row9 row10 row11 row12 row13 row14 row15 row16 row17);
 
 #[inline(never)]
 fn write_both() {

@@ -1,0 +1,77 @@
+//! From positions to counts, in 32 bits where they suffice, else in 64.
+
+use std::hint::assert_unchecked;
+
+/// What a position is geared by.
+#[derive(Clone, Copy)]
+pub struct Gear {
+    pub offset: i32,
+    pub numerator: u32,
+    pub denominator: u32,
+    pub lower: i32,
+    pub upper: i32,
+}
+
+impl Gear {
+    /// The target, or the limit that it is beyond.
+    pub fn clamp(&self, target: i32) -> i32 {
+        if target < self.lower {
+            self.lower
+        } else if target > self.upper {
+            self.upper
+        } else {
+            target
+        }
+    }
+
+    /// In range it is not 0. As in C, no division tests that.
+    fn divisor(&self) -> u32 {
+        unsafe { assert_unchecked(self.denominator != 0) };
+        self.denominator
+    }
+
+    /// A position as a count from home, rounded towards minus infinity; nothing where the product does not fit 32 bits.
+    ///
+    /// The difference is below 2^28, the numerator at most 2^20. So the product of their upper bits fits. Where it is above 2^15 the product is
+    /// above 2^31; where it is not the product is below 2^32.
+    pub fn narrow(&self, position: i32) -> Option<i32> {
+        let difference = position - self.offset;
+        let size = difference.unsigned_abs();
+        if (size >> 12) * (self.numerator >> 4) > 1 << 15 {
+            return None;
+        }
+        let product = size * self.numerator;
+        if difference >= 0 {
+            if product >= 1 << 31 {
+                return None;
+            }
+            Some((product / self.divisor()) as i32)
+        } else {
+            if product > 1 << 31 {
+                return None;
+            }
+            Some(-(((product + self.divisor() - 1) / self.divisor()) as i32))
+        }
+    }
+
+    /// The same for every position.
+    pub fn wide(&self, position: i32) -> i64 {
+        let difference = position - self.offset;
+        let product = difference.unsigned_abs() as u64 * self.numerator as u64;
+        let divisor = self.divisor() as u64;
+        if difference >= 0 {
+            (product / divisor) as i64
+        } else {
+            -(((product + divisor - 1) / divisor) as i64)
+        }
+    }
+
+    /// By the narrow gear, or where that is too wide by the wide one. It stays out of the tick, where it would take registers from all else.
+    #[inline(never)]
+    pub fn geared(&self, position: i32) -> i32 {
+        match self.narrow(position) {
+            Some(count) => count,
+            None => self.wide(position) as i32,
+        }
+    }
+}
