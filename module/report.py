@@ -1,7 +1,8 @@
 """report.py FOLDER: the tables of docs/MODULE.md, from what module/run measured. Exits with 1 where an answer differs or a budget is exceeded.
 
 FOLDER has `rows` (as bench's feed prints them, and the generated script), `answers` (x86-64's), and for each side, axis (proved) and baseline,
-`SIDE.o`, and in `SIDE/` the module's `answers`, `trace` (as tracer.c writes it), `calls.map` and `writer.map` (of the library linked alone)."""
+`SIDE.o`, and in `SIDE/` the module's `answers`, `trace` (as tracer.c writes it), `calls.map` and `writer.map` (of the library linked alone), and in
+`SIDE_gears/` the `answers` and `trace` of gears.c."""
 import re
 import subprocess
 import sys
@@ -151,6 +152,37 @@ def size_table(folder, stacks):
     return {f"bytes, {name}": (size, None) for name, size, _ in table}
 
 
+def gear_table(folder):
+    """Prints what each gear takes alone; returns how the proved narrow one compares with the wide one, and what it spends in 64-bit routines."""
+    answers = [(folder / f"{side}_gears/answers").read_text() for side in SIDES]
+    if answers[0] != answers[1]:
+        sys.exit("a proved gear answers otherwise than the baseline's")
+    traces = [(folder / f"{side}_gears/trace").read_text().splitlines() for side in SIDES]
+    owns = [symbols(folder / file) for file in ("gears.o", "baseline.o")]
+    calls = [[Call(line, own) for line in trace] for trace, own in zip(traces, owns)]
+    rows, place = {}, 0
+    for line in answers[0].splitlines():
+        if line.startswith("row "):
+            row = rows.setdefault(line[4:], [])
+            continue
+        target, answered, count, wide_count = map(int, line.split())
+        if answered and count != wide_count:
+            sys.exit(f"the gears differ on {target}: {count}, {wide_count}")
+        row += [place, place + 1]
+        place += 2
+    table, figures = [], {}
+    for row, places in rows.items():
+        mean = lambda side, places: sum(side[at].instructions for at in places) / len(places)
+        narrow, wide = ([mean(side, places[way::2]) for side in calls] for way in (0, 1))
+        ratio = narrow[0] / wide[0]
+        table.append([row, *(f"{figure:.0f}" for figure in (*narrow, *wide)), f"{ratio:.2f}"])
+        figures[f"ratio, narrow gear to wide, {row}"] = ratio, None
+    head = "a gear alone, instructions", "narrow, proved", "baseline", "wide, proved", "baseline", "narrow to wide, proved"
+    print_table(head, table)
+    figures["instructions, 64-bit routines in the narrow gear"] = sum(call.parts["64-bit arithmetic"] for call in calls[0][::2]), None
+    return figures
+
+
 def part_table(rows, calls):
     """Prints where the instructions of the proved side go."""
     table = []
@@ -176,6 +208,7 @@ def main(folder):
     ratios = row_table(rows, calls)
     figures, stacks = worst_table(events, calls)
     figures.update(size_table(folder, stacks))
+    figures.update(gear_table(folder))
     part_table(rows, calls[0])
     exceeded = list(over_budget(ratios, figures))
     print("\nbudgets exceeded:" if exceeded else "\nwithin all budgets", *exceeded, sep="\n  ")

@@ -50,7 +50,7 @@ use Rattle.demands.specs.Events.{Event, word}
 use Rattle.demands.specs.Known.{Since, never, known}
 use Rattle.demands.specs.Known.{start as begun}
 use Rattle.demands.specs.Replies.{Reply, replies}
-use Rattle.demands.specs.Sheet.{words-S, settings-S}
+use Rattle.demands.specs.Sheet.{words-S, settings-S, S-with}
 use Rattle.demands.specs.Lists.{off, HOM, Z, POT, NOT, minus, inputs, still-tick, moving-tick, alarmed, ask, ask-in, hybrid, start, at, halted, released, S, with, enabling, enabled, enabled-with, after, number, torque, position, speed, status, alarm}
 
 abbrev sameCounts : List ℤ → List ℤ → Bool
@@ -67,6 +67,13 @@ target z = ask (Position z (pos 0))
 
 abbrev targets : List Event
 targets = target (pos 5) ∷ target (minus 5) ∷ target (pos 1001) ∷ target (pos 1000) ∷ []
+
+-- homed at 0 with gear 2^20 to 2 from −2048 to 2048, whose greatest products are 2^31 and −2^31
+abbrev coarse : List Event
+coarse = map word (S-with ((5, 0x100000) ∷ (7, 0xFFFF800) ∷ (8, 2048) ∷ [])) ++ enabling ++ start 10 HOM ∷ at 0 off ∷ []
+
+abbrev edges : List Event
+edges = target (pos 2047) ∷ target (pos 2048) ∷ target (pos 2049) ∷ target (minus 2047) ∷ target (minus 2048) ∷ target (minus 2049) ∷ []
 
 abbrev requests : List Event
 requests = ask (Torque (pos 900)) ∷ ask (Torque (minus 700)) ∷ ask (Torque (minus 32768)) ∷ ask (Torque (pos 800)) ∷ []
@@ -169,6 +176,8 @@ further =
     ∷ homes 23 (start 100 off ∷ halted 100 POT ∷ at 100 off ∷ at 110 HOM ∷ at 108 off ∷ [])
     -- the event and the limit in one tick: the event
     ∷ homes 23 (start 100 POT ∷ at 101 (switchesIn 5) ∷ at 99 off ∷ [])
+    -- 02, (iii): by both gears, on either side of each edge
+    ∷ sameCounts (map position (after coarse edges)) (pos 0x3FF80000 ∷ pos 0x40000000 ∷ pos 0x40000000 ∷ minus 0x3FF80000 ∷ minus 0x40000000 ∷ minus 0x40000000 ∷ [])
     -- not homed: the edge lost in halt
     ∷ not (homes 33 (start 100 off ∷ halted 99 Z ∷ at 98 Z ∷ []))
     -- bit 4 clear in the tick of the event, and for one tick before it

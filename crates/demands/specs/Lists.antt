@@ -97,7 +97,7 @@ abbrev pub S : List Event
 S = map word words-S
 
 abbrev pub with : ℕ → ℕ → List Event
-with kind x = map word (S-with kind x)
+with kind x = map word (S-with ((kind, x) ∷ []))
 
 -- from Not ready to Switch on disabled, to Ready, and enabled by 000F
 abbrev pub enabling : List Event

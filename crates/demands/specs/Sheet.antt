@@ -33,6 +33,10 @@ settings-S =
       rated = 2000;
     }
 
--- S with other data of one kind, and the sum that goes with it
-abbrev pub S-with : ℕ → ℕ → List ℕ
-S-with kind x = sealed (set (map dataOf (take 14 words-S)) kind x)
+-- S with other data of some kinds, and the sum that goes with it
+abbrev changed : List (ℕ × ℕ) → List ℕ → List ℕ
+changed [] values = values
+changed (c ∷ cs) values = changed cs (set values (c .0) (c .1))
+
+abbrev pub S-with : List (ℕ × ℕ) → List ℕ
+S-with changes = sealed (changed changes (map dataOf (take 14 words-S)))

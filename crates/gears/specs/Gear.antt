@@ -1,13 +1,18 @@
--- The gear, and the reach of the position limits (6). 01, "What a tick hands out": "subtract offset, times numerator, over
--- denominator, rounded towards minus infinity". A limit's own clamp changes nothing where the limits are not crossed, and that is
--- tested first.
+-- The gear, and the reach of the position limits (6). 01, "What a tick hands out": "clamp the target to the stops, subtract offset, times
+-- numerator, over denominator, rounded towards minus infinity". A limit's own clamp changes nothing where the limits are not crossed, and
+-- that is tested first.
 -- Assumes nothing.
 use Prim.Native.Nat.{ℕ, _^_, min, max}
 use mathlib.Core.Bool.{Bool, _&&_}
 use lib.IntN.{ℤ, pos, negℤ, _-ℤ_, _*ℤ_}
 use lib.Signed.{leZ}
+use Rattle.counts.specs.Clamp.{clamped}
 use Rattle.counts.specs.Divide.{floorDiv}
 use Rattle.settings.specs.declared.Settings.{Settings}
+
+-- "clamp the target to the stops"
+abbrev pub withinLimits : Settings → ℤ → ℤ
+withinLimits s target = clamped target (s .lower) (s .upper)
 
 -- guards for fields that are out of range: in range they change nothing (`proofs/Guards.antt`)
 abbrev pub cappedNumerator : Settings → ℕ

@@ -1,1 +1,3 @@
 pub mod Gear
+pub mod Narrow
+pub mod Examples

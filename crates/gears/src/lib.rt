@@ -1,11 +1,20 @@
 // The gear: user units to counts, and whether the position limits are in reach (01: refusal 6).
+pub mod narrow;
+
 use settings::Settings;
 ghost use mathlib.Core.Path.{_≡_};
 ghost use Prim.Native.Nat.{_/_, _%_, _^_, _≤_, _<_, min};
 ghost use lib.Signed.{mag};
 ghost use Rattle.counts.specs.Wrap.{wrapped};
 ghost use Rattle.counts.specs.Divide.{floorDiv};
-ghost use Rattle.gears.specs.Gear.{divisorOf, gearedOf, withinReach, inReach};
+ghost use Rattle.gears.specs.Gear.{withinLimits, divisorOf, gearedOf, withinReach, inReach};
+
+// A target within the position limits.
+pub fn within_limits(s: Settings, target: i32) -> i32
+    ensures { λ r. ⌜ r ≡ withinLimits s target ⌝ }
+{
+    counts::clamp(target, s.lower, s.upper)
+}
 
 // A gear's numerator and its denominator are at most 2^20.
 fn capped(term: u32) -> u32
@@ -18,11 +27,8 @@ fn capped(term: u32) -> u32
 fn divisor(denominator: u32) -> u32
     ensures { λ r. ⌜ r ≡ divisorOf denominator ⌝ }
 {
-    if denominator == 0 {
-        1
-    } else {
-        capped(denominator)
-    }
+    let term = capped(denominator);
+    if term == 0 { 1 } else { term }
 }
 
 // p over d, modulo 2^32: long division in 32 bits, of all but the low 24 bits first, then of twelve bits at a time. What is left over from the digits

@@ -5,12 +5,11 @@ use mathlib.Core.Bool.{Bool, false, cond, _&&_, _||_}
 use lib.IntN.{ℤ, _+ℤ_}
 use lib.Signed.{ltZ}
 use Rattle.counts.specs.Wrap.{wrapped}
-use Rattle.counts.specs.Clamp.{clamped}
 use Rattle.states.specs.declared.State.{State}
 use Rattle.states.specs.declared.State.the-variants.{OperationEnabled}
 use Rattle.states.specs.States.{is}
 use Rattle.settings.specs.declared.Settings.{Settings}
-use Rattle.gears.specs.Gear.{gearedOf, plainGear}
+use Rattle.gears.specs.Gear.{withinLimits, gearedOf, plainGear}
 use Rattle.position.specs.declared.Followed.{Followed}
 use Rattle.position.specs.declared.Followed.the-variants.{Target, Nothing}
 
@@ -18,11 +17,7 @@ use Rattle.position.specs.declared.Followed.the-variants.{Target, Nothin
 abbrev pub followedOf : Bool → State → Bool → ℤ → Followed
 followedOf matched state homed target = cond (matched && is state OperationEnabled && homed) (Target target) Nothing
 
--- the target within the stops
-abbrev pub withinLimits : Settings → ℤ → ℤ
-withinLimits s target = clamped target (s .lower) (s .upper)
-
--- its count
+-- the count of a target
 unfoldable pub countOf : Settings → ℤ → ℤ → ℤ
 countOf s home target = wrapped (home +ℤ gearedOf s (withinLimits s target))
 

@@ -1,8 +1,10 @@
 // The position that a tick commands: the followed target as a count, or the actual position.
+use gears::narrow;
+use gears::narrow::Narrow;
 use settings::Settings;
 use states::State;
 ghost use mathlib.Core.Path.{_≡_};
-ghost use Rattle.position.specs.Position.{followedOf, withinLimits, countOf, positionOf, outsideOf, clampedOf};
+ghost use Rattle.position.specs.Position.{followedOf, countOf, positionOf, outsideOf, clampedOf};
 
 // The target that a tick follows, in user units.
 pub enum Followed {
@@ -22,19 +24,23 @@ pub fn follow(matched: bool, state: State, homed: bool, target: i32) -> Followed
     }
 }
 
-// A target within the position limits.
-fn within_limits(s: Settings, target: i32) -> i32
-    ensures { λ r. ⌜ r ≡ withinLimits s target ⌝ }
+// The target's count by the wide gear, which answers every target.
+fn wide_count(s: Settings, home: i32, target: i32) -> i32
+    ensures { λ r. ⌜ r ≡ countOf s home target ⌝ }
 {
-    counts::clamp(target, s.lower, s.upper)
+    let near = gears::within_limits(s, target);
+    let count = gears::geared(s, near);
+    counts::sum(home, count)
 }
 
+// The target's count: by the narrow gear where it answers.
 fn count_of(s: Settings, home: i32, target: i32) -> i32
     ensures { λ r. ⌜ r ≡ countOf s home target ⌝ }
 {
-    let near = within_limits(s, target);
-    let count = gears::geared(s, near);
-    counts::sum(home, count)
+    match narrow::geared(s, target) {
+        Narrow::TooWide => wide_count(s, home, target),
+        Narrow::Count(count) => counts::sum(home, count),
+    }
 }
 
 // The commanded position, in counts.

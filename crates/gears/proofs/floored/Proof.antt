@@ -1,31 +1,21 @@
 -- `gears::floored` meets its contract: either way `mag x` is divided, and −1 less a number turns x and the quotient.
 -- Assumes nothing.
 use Prim.Native.Nat.{ℕ, _/_, _%_, _^_, _<_}
-use mathlib.Core.Path.{_≡_, refl, sym, ap, subst, _∙_}
-use mathlib.Core.Bool.{true, false}
+use mathlib.Core.Path.{_≡_, sym, ap, _∙_}
 use native.Mathlib.Omega.{arith}
-use lib.Dec.{T}
 use lib.IntN.{ℤ, pos, negsuc, _-ℤ_}
-use lib.Signed.{mag, leZ}
+use lib.Signed.{mag}
 use mir.Facts.{toZ-ofZ}
 use mir.Syntax.{w32, w64}
 use mir.Val.{SFits, toZ, ofZ}
 use borrow.Author.Needs.{needs}
-use borrow.Author.Tests.{leb-false}
 use Rattle.counts.specs.Divide.{floorDiv}
 use Rattle.counts.specs.Wrap.{wrapped}
 use Rattle.counts.proofs.Integers.{read-unsigned, mag-sub, mirror-down, mirror-fits}
 use Rattle.counts.proofs.Modulo.{wrapped-low, wrapped-mirror}
+use Rattle.gears.proofs.Signs.{up, down}
 use Rattle.gears.proofs.floored.Statement.{statement}
 use Rattle.gears.proofs.floored.Tie as tie
-
-up : (x : ℤ) → leZ (pos 0) x ≡ true → x ≡ pos (mag x)
-up (pos n) t = refl
-up (negsuc n) t = absurd (subst T (sym t) tt)
-
-down : (x : ℤ) → leZ (pos 0) x ≡ false → x ≡ negsuc (mag x)
-down (pos n) t = absurd (omega (arith, leb-false 0 n t))
-down (negsuc n) t = refl
 
 is-up : (c : tie.Then1) → c .before .args .x ≡ pos (mag (c .before .args .x))
 is-up c = up (c .before .args .x) (rw (toZ-ofZ (c .before .fits .x)) at (c .if1 .taken))

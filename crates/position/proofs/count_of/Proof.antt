@@ -1,44 +1,51 @@
--- `position::count_of` meets its contract: a sum modulo 2 ^ 32 may take its count modulo 2 ^ 32 first.
+-- `position::count_of` meets its contract: a count that the narrow gear answers is the wide gear's (`same-count`).
 -- Assumes nothing.
+use mathlib.Core.Path.{_≡_, sym, _∙_}
 use mir.Facts.{toZ-ofZ}
 use mir.Syntax.{w32}
 use mir.Val.{SFits}
-use Rattle.counts.proofs.Modulo.{wrapped-sum}
-use Rattle.gears.specs.Gear.{gearedOf}
-use Rattle.position.specs.Position.{withinLimits, countOf}
+use Rattle.gears.specs.Gear.{withinLimits, gearedOf}
+use Rattle.gears.proofs.Same.{same-count}
+use Rattle.position.specs.Position.{countOf}
 use borrow.Author.Needs.{needs}
 use Rattle.position.proofs.count_of.Statement.{statement}
 use Rattle.position.proofs.count_of.Tie as tie
 
-within-limits-requires : tie.Need-within-limits-requires
-within-limits-requires c κs = search needs
-
 geared-requires : tie.Need-geared-requires
 geared-requires c κs = search needs
+
+enum-told : tie.Need-enum-told
+enum-told c = search needs
+
+wide-count-requires : tie.Need-wide-count-requires
+wide-count-requires c κs = search needs
+
+enum-known-count : tie.Need-enum-known-count
+enum-known-count c = search needs
 
 sum-requires : tie.Need-sum-requires
 sum-requires c κs = search needs
 
 returns : tie.Need-returns
-unfolding countOf
 returns c =
-    let g = c .before in
-    let l = g .before in
-    let b = l .before in
+    let s = c .before .before .before .before in
+    let r : SFits w32 (c .wide-count .result) = search needs in
+    rw (toZ-ofZ r, c .wide-count .ensures, toZ-ofZ (s .fits .home), toZ-ofZ (s .fits .target))
+
+returns-2 : tie.Need-returns-2
+unfolding countOf
+returns-2 c =
+    let k = c .before .before in
+    let g = k .before .before in
+    let s = g .before in
     let r : SFits w32 (c .sum .result) = search needs in
-    let count : SFits w32 (g .geared .result) = search needs in
-    let near : SFits w32 (l .within-limits .result) = search needs in
-    rw (
-      toZ-ofZ r,
-      c .sum .ensures,
-      toZ-ofZ (b .fits .home),
-      toZ-ofZ count,
-      g .geared .ensures,
-      toZ-ofZ near,
-      l .within-limits .ensures,
-      toZ-ofZ (b .fits .target),
-    )
-    (wrapped-sum (b .args .home) (gearedOf (b .args .s) (withinLimits (b .args .s) (b .args .target))))
+    let n : SFits w32 (k .count .given .0 .0) = search needs in
+    let e = rw (toZ-ofZ (s .fits .target)) at (g .geared .ensures) in
+    let same : k .count .given .0 .0 ≡ gearedOf (s .args .s) (withinLimits (s .args .s) (s .args .target)) =
+    rw (sym e ∙ k .count .given .1) at (same-count (s .args .s) (s .args .target)) in
+    rw (toZ-ofZ r, c .sum .ensures, toZ-ofZ (s .fits .home), toZ-ofZ n, same)
 
 pub count-of-spec : {M : Type 1} → statement M
-count-of-spec = tie.close (tie.spec within-limits-requires geared-requires sum-requires returns)
+count-of-spec =
+    tie.close
+    (tie.spec geared-requires enum-told wide-count-requires enum-known-count sum-requires returns returns-2)

@@ -1,11 +1,11 @@
--- `position::within_limits` meets its contract.
+-- `gears::within_limits` meets its contract.
 -- Assumes nothing.
 use mir.Facts.{toZ-ofZ}
 use mir.Syntax.{w32}
 use mir.Val.{SFits}
 use borrow.Author.Needs.{needs}
-use Rattle.position.proofs.within_limits.Statement.{statement}
-use Rattle.position.proofs.within_limits.Tie as tie
+use Rattle.gears.proofs.within_limits.Statement.{statement}
+use Rattle.gears.proofs.within_limits.Tie as tie
 
 clamp-requires : tie.Need-clamp-requires
 clamp-requires c κs = search needs
