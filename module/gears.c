@@ -1,7 +1,7 @@
 /* Each gear alone, the narrow one and the wide one, on a hundred targets under each of some gears, for module/run to count their calls.
  *
  * Prints `row NAME` for a gear, and then a line for each target: TARGET, whether the narrow gear answers, its count or 0, and the wide gear's
- * count. Targets are spread as those of the bench's followed positions. */
+ * count. Targets are spread as those of the bench's followed positions. The proved wide gear is measured with home added, here 0. */
 #include <inttypes.h>
 #include <stdbool.h>
 #include <stdio.h>

@@ -2,7 +2,7 @@
 
 FOLDER has `rows` (as bench's feed prints them, and the generated script), `answers` (x86-64's), and for each side, axis (proved) and baseline,
 `SIDE.o`, and in `SIDE/` the module's `answers`, `trace` (as tracer.c writes it), `calls.map` and `writer.map` (of the library linked alone), and in
-`SIDE_gears/` the `answers` and `trace` of gears.c."""
+`SIDE_gears/` the `answers` and `trace` of gears.c; `gears.o` is the proved library with its gears apart."""
 import re
 import subprocess
 import sys
@@ -154,20 +154,19 @@ def size_table(folder, stacks):
 
 def gear_table(folder):
     """Prints what each gear takes alone; returns how the proved narrow one compares with the wide one, and what it spends in 64-bit routines."""
-    answers = [(folder / f"{side}_gears/answers").read_text() for side in SIDES]
-    if answers[0] != answers[1]:
-        sys.exit("a proved gear answers otherwise than the baseline's")
+    answers = [(folder / f"{side}_gears/answers").read_text().splitlines() for side in SIDES]
     traces = [(folder / f"{side}_gears/trace").read_text().splitlines() for side in SIDES]
     owns = [symbols(folder / file) for file in ("gears.o", "baseline.o")]
     calls = [[Call(line, own) for line in trace] for trace, own in zip(traces, owns)]
     rows, place = {}, 0
-    for line in answers[0].splitlines():
+    for line, baseline in zip(*answers, strict=True):
         if line.startswith("row "):
-            row = rows.setdefault(line[4:], [])
+            name = line[4:]
+            row = rows.setdefault(name, [])
             continue
         target, answered, count, wide_count = map(int, line.split())
-        if answered and count != wide_count:
-            sys.exit(f"the gears differ on {target}: {count}, {wide_count}")
+        if line != baseline or (answered and count != wide_count):
+            sys.exit(f"{name}: the gears differ\nproved: {line}\nbaseline: {baseline}")
         row += [place, place + 1]
         place += 2
     table, figures = [], {}

@@ -31,7 +31,7 @@ fn expected((offset, numerator, denominator, lower, upper): Gear, target: i32) -
     let difference = i64::from(target).clamp(lower, upper) - offset;
     let product = difference * numerator;
     let fits = i32::try_from(difference).is_ok() && i32::try_from(product).is_ok();
-    fits.then_some((product.div_euclid(denominator)) as i32)
+    fits.then_some(product.div_euclid(denominator) as i32)
 }
 
 /// Says whether it was narrow; either way the followed position is the wide gear's.

@@ -176,7 +176,7 @@ further =
     ∷ homes 23 (start 100 off ∷ halted 100 POT ∷ at 100 off ∷ at 110 HOM ∷ at 108 off ∷ [])
     -- the event and the limit in one tick: the event
     ∷ homes 23 (start 100 POT ∷ at 101 (switchesIn 5) ∷ at 99 off ∷ [])
-    -- 02, (iii): by both gears, on either side of each edge
+    -- 02, (iii): by both gears; a product of 2^31 is too wide for the narrow one, −2^31 is not
     ∷ sameCounts (map position (after coarse edges)) (pos 0x3FF80000 ∷ pos 0x40000000 ∷ pos 0x40000000 ∷ minus 0x3FF80000 ∷ minus 0x40000000 ∷ minus 0x40000000 ∷ [])
     -- not homed: the edge lost in halt
     ∷ not (homes 33 (start 100 off ∷ halted 99 Z ∷ at 98 Z ∷ []))

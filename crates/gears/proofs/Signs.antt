@@ -8,10 +8,10 @@ use lib.Dec.{T}
 use lib.IntN.{ℤ, pos, negsuc}
 use lib.Signed.{mag, leZ}
 
-pub up : (z : ℤ) → leZ (pos 0) z ≡ true → z ≡ pos (mag z)
-up (pos n) t = refl
-up (negsuc n) t = absurd (subst T (sym t) tt)
+pub not-negative : (z : ℤ) → leZ (pos 0) z ≡ true → z ≡ pos (mag z)
+not-negative (pos n) t = refl
+not-negative (negsuc n) t = absurd (subst T (sym t) tt)
 
-pub down : (z : ℤ) → leZ (pos 0) z ≡ false → z ≡ negsuc (mag z)
-down (pos n) t = absurd (omega (arith, leb-false 0 n t))
-down (negsuc n) t = refl
+pub negative : (z : ℤ) → leZ (pos 0) z ≡ false → z ≡ negsuc (mag z)
+negative (pos n) t = absurd (omega (arith, leb-false 0 n t))
+negative (negsuc n) t = refl

@@ -23,7 +23,7 @@ fn capped(term: u32) -> u32
     if term < 0x100000 { term } else { 0x100000 }
 }
 
-// And its denominator is at least 1.
+// And its denominator is at least 1: capped first, so that the compiler sees that no division is by 0.
 fn divisor(denominator: u32) -> u32
     ensures { λ r. ⌜ r ≡ divisorOf denominator ⌝ }
 {
@@ -55,7 +55,7 @@ fn floored(x: i64, d: u32) -> i32
     }
 }
 
-// A position in user units as counts from home, modulo 2^32 and read as signed.
+// The wide gear: a position in user units as counts from home, modulo 2^32 and read as signed.
 pub fn geared(s: Settings, position: i32) -> i32
     ensures { λ r. ⌜ r ≡ wrapped (gearedOf s position) ⌝ }
 {

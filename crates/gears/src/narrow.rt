@@ -26,7 +26,7 @@ fn biased(x: i32) -> u32
     }
 }
 
-// A product by the halves of its greater factor: `top` is all of it but the low 16 bits.
+// A product by the halves of its greater factor, held at 2^31 + 2^16, which fits no 32 bits signed: `top` is all of it but the low 16 bits.
 fn product_by_halves(lesser: u32, greater: u32) -> u32
     requires { ⌜ lesser ≤ greater ⌝ }
     ensures { λ r. ⌜ r ≡ heldProduct lesser greater ⌝ }
@@ -43,7 +43,7 @@ fn product_by_halves(lesser: u32, greater: u32) -> u32
     }
 }
 
-// The product of any two, held at 2^31 + 2^16, which fits no 32 bits signed.
+// The product of any two, held likewise.
 fn product(a: u32, b: u32) -> u32
     ensures { λ r. ⌜ r ≡ heldProduct a b ⌝ }
 {
@@ -105,8 +105,8 @@ fn estimate(p: u32, d: u32) -> u32
     high * (r / 0x10000) + high * (r % 0x10000) / 0x10000 + p % 0x10000 * (r / 0x10000) / 0x10000
 }
 
-// p over d. The module's routine takes some seven instructions for each bit of the quotient: so a small d is multiplied by, and only what that
-// leaves is divided, if anything.
+// p over d. The module's routine takes some seven instructions for each bit of the quotient: so p is multiplied by a small d's
+// reciprocal, and only what that leaves is divided, if anything.
 fn over(p: u32, d: u32) -> u32
     requires { ⌜ 0 < d ⌝ }
     ensures { λ r. ⌜ r ≡ p / d ⌝ }

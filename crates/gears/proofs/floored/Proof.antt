@@ -13,15 +13,15 @@ use Rattle.counts.specs.Divide.{floorDiv}
 use Rattle.counts.specs.Wrap.{wrapped}
 use Rattle.counts.proofs.Integers.{read-unsigned, mag-sub, mirror-down, mirror-fits}
 use Rattle.counts.proofs.Modulo.{wrapped-low, wrapped-mirror}
-use Rattle.gears.proofs.Signs.{up, down}
+use Rattle.gears.proofs.Signs.{not-negative, negative}
 use Rattle.gears.proofs.floored.Statement.{statement}
 use Rattle.gears.proofs.floored.Tie as tie
 
 is-up : (c : tie.Then1) → c .before .args .x ≡ pos (mag (c .before .args .x))
-is-up c = up (c .before .args .x) (rw (toZ-ofZ (c .before .fits .x)) at (c .if1 .taken))
+is-up c = not-negative (c .before .args .x) (rw (toZ-ofZ (c .before .fits .x)) at (c .if1 .taken))
 
 is-down : (c : tie.Else1) → c .before .args .x ≡ negsuc (mag (c .before .args .x))
-is-down c = down (c .before .args .x) (rw (toZ-ofZ (c .before .fits .x)) at (c .if1 .left))
+is-down c = negative (c .before .args .x) (rw (toZ-ofZ (c .before .fits .x)) at (c .if1 .left))
 
 -- what is divided, as the machine holds it: x, and below zero −1 less x
 read : (c : tie.Then1) → toZ w64 (ofZ w64 (c .before .args .x)) ≡ pos (mag (c .before .args .x))

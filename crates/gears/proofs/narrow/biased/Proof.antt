@@ -9,15 +9,15 @@ use mir.Syntax.{w32}
 use mir.Val.{SFits, toZ, ofZ}
 use Rattle.counts.proofs.Integers.{mirror-down}
 use Rattle.gears.specs.Narrow.{biasedOf}
-use Rattle.gears.proofs.Signs.{up, down}
+use Rattle.gears.proofs.Signs.{not-negative, negative}
 use Rattle.gears.proofs.narrow.biased.Statement.{statement}
 use Rattle.gears.proofs.narrow.biased.Tie as tie
 
 is-up : (c : tie.Then1) → c .before .args .x ≡ pos (mag (c .before .args .x))
-is-up c = up (c .before .args .x) (rw (toZ-ofZ (c .before .fits .x)) at (c .if1 .taken))
+is-up c = not-negative (c .before .args .x) (rw (toZ-ofZ (c .before .fits .x)) at (c .if1 .taken))
 
 is-down : (c : tie.Else1) → c .before .args .x ≡ negsuc (mag (c .before .args .x))
-is-down c = down (c .before .args .x) (rw (toZ-ofZ (c .before .fits .x)) at (c .if1 .left))
+is-down c = negative (c .before .args .x) (rw (toZ-ofZ (c .before .fits .x)) at (c .if1 .left))
 
 read : (c : tie.Then1) → toZ w32 (ofZ w32 (c .before .args .x)) ≡ pos (mag (c .before .args .x))
 read c = toZ-ofZ (c .before .fits .x) ∙ is-up c

@@ -33,38 +33,36 @@ below-requires : tie.Need-below-requires
 below-requires c κs = search needs
 
 -- what the calls before the test gave
-module _ (c : tie.After-capped) where
-  near-fits : SFits w32 (c .before .before .before .before .within-limits .result)
-  near-fits = search needs
+near-fits : (c : tie.After-within-limits) → SFits w32 (c .within-limits .result)
+near-fits c = search needs
 
-  offset-fits : SFits w32 (c .before .before .before .before .before .args .s .offset)
-  offset-fits = search needs
+near-is : (c : tie.After-within-limits) → c .within-limits .result ≡ withinLimits (c .before .args .s) (c .before .args .target)
+near-is c = rw (toZ-ofZ (c .before .fits .target)) at (c .within-limits .ensures)
 
-  near-is
-      : c .before .before .before .before .within-limits .result
-      ≡ withinLimits (c .before .before .before .before .before .args .s) (c .before .before .before .before .before .args .target)
-  near-is =
-      rw (toZ-ofZ (c .before .before .before .before .before .fits .target)) at (c .before .before .before .before .within-limits .ensures)
+biased-near : (c : tie.After-biased) → c .biased .result ≡ biasedOf (c .before .within-limits .result)
+biased-near c = rw (toZ-ofZ (near-fits (c .before))) at (c .biased .ensures)
 
-  biased-near : c .before .before .before .biased .result ≡ biasedOf (c .before .before .before .before .within-limits .result)
-  biased-near = rw (toZ-ofZ near-fits) at (c .before .before .before .biased .ensures)
+offset-fits : (c : tie.After-biased) → SFits w32 (c .before .before .args .s .offset)
+offset-fits c = search needs
 
-  biased-offset : c .before .biased2 .result ≡ biasedOf (c .before .before .before .before .before .args .s .offset)
-  biased-offset = rw (toZ-ofZ offset-fits) at (c .before .biased2 .ensures)
+biased-offset : (c : tie.After-biased2) → c .biased2 .result ≡ biasedOf (c .before .before .before .before .args .s .offset)
+biased-offset c = rw (toZ-ofZ (offset-fits (c .before .before))) at (c .biased2 .ensures)
 
 returns : tie.Need-returns
 unfolding narrowOf
 returns c =
     let k = c .before .before in
-    rw (← near-is k, apart-up (near-fits k) (offset-fits k) (biased-near k) (biased-offset k) (c .before .if1 .taken), ← k .capped .ensures)
-    (c .above .ensures)
+    let b = k .before .before .before in
+    let difference = apart-up (near-fits (b .before)) (offset-fits b) (biased-near b) (biased-offset (k .before)) (c .before .if1 .taken) in
+    rw (← near-is (b .before), difference, ← k .capped .ensures) (c .above .ensures)
 
 returns-2 : tie.Need-returns-2
 unfolding narrowOf
 returns-2 c =
     let k = c .before .before in
-    rw (← near-is k, apart-down (near-fits k) (offset-fits k) (biased-near k) (biased-offset k) (c .before .if1 .left), ← k .capped .ensures)
-    (c .below .ensures)
+    let b = k .before .before .before in
+    let difference = apart-down (near-fits (b .before)) (offset-fits b) (biased-near b) (biased-offset (k .before)) (c .before .if1 .left) in
+    rw (← near-is (b .before), difference, ← k .capped .ensures) (c .below .ensures)
 
 pub geared-spec : {M : Type 1} → statement M
 geared-spec =
