@@ -66,8 +66,8 @@ impl Gear {
         }
     }
 
-    /// By the narrow gear, or where that is too wide by the wide one. On the module
-    /// (`module/run`) it stays out of the tick, where it would take registers from all else.
+    /// By the narrow gear, or where that is too wide by the wide one. On the module (`module/run`) it stays out of the tick, where it would
+    /// take registers from all else.
     #[cfg_attr(module, inline(never))]
     pub fn geared(&self, position: i32) -> i32 {
         match self.narrow(position) {

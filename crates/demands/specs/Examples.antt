@@ -14,7 +14,7 @@ use Rattle.counts.specs.Bit.{bitOf}
 use Rattle.counts.specs.Wrap.{modulo, signed, wrapped}
 use Rattle.counts.specs.Divide.{floorDiv}
 use Rattle.counts.specs.Clamp.{clamped}
-use Rattle.counts.specs.Tests.{same, all}
+use Rattle.counts.specs.Tests.{minus, same, all}
 use Rattle.ranges.specs.Range.{methodOk}
 use Rattle.gears.specs.Gear.{gearedOf, inReach}
 use Rattle.checks.specs.Check.{limitsVerdict, acceptable}
@@ -51,7 +51,7 @@ use Rattle.demands.specs.Known.{Since, never, known}
 use Rattle.demands.specs.Known.{start as begun}
 use Rattle.demands.specs.Replies.{Reply, replies}
 use Rattle.demands.specs.Sheet.{words-S, settings-S, S-with}
-use Rattle.demands.specs.Lists.{off, HOM, Z, POT, NOT, minus, inputs, still-tick, moving-tick, alarmed, ask, ask-in, hybrid, start, at, halted, released, S, with, enabling, enabled, enabled-with, after, number, torque, position, speed, status, alarm}
+use Rattle.demands.specs.Lists.{off, HOM, Z, POT, NOT, inputs, still-tick, moving-tick, alarmed, ask, ask-in, hybrid, start, at, halted, released, S, with, enabling, enabled, enabled-with, after, number, torque, position, speed, status, alarm}
 
 abbrev sameCounts : List ℤ → List ℤ → Bool
 sameCounts [] [] = true

@@ -3,7 +3,7 @@
 use Prim.Native.Nat.{ℕ}
 use mathlib.Core.Bool.{Bool, true, false}
 use mathlib.Core.List.{List, [], _∷_, _++_, map}
-use lib.IntN.{ℤ, pos, negℤ}
+use lib.IntN.{ℤ, pos}
 use lib.ListN.{length, drop}
 use lib.Ieee.{binary32, ofBits}
 use Rattle.settings.specs.Refusal.{verdictNumber}
@@ -31,9 +31,6 @@ POT = switchesIn 1
 
 abbrev pub NOT : Switches
 NOT = switchesIn 2
-
-abbrev pub minus : ℕ → ℤ
-minus n = negℤ (pos n)
 
 -- limit set and alarm word; control word, command, position, switches and standstill
 abbrev pub given : LimitSet → ℕ → ℕ → Command → ℕ → Switches → Bool → Event

@@ -4,9 +4,10 @@
 use Prim.Native.Nat.{ℕ, _-_, _*_, _^_}
 use mathlib.Core.Path.{_≡_, refl}
 use mathlib.Core.List.{List, [], _∷_, map}
-use lib.IntN.{ℤ, pos, negℤ}
+use lib.IntN.{ℤ, pos}
 use Rattle.counts.specs.Clamp.{clamped}
 use Rattle.counts.specs.Divide.{floorDiv}
+use Rattle.counts.specs.Tests.{minus}
 use Rattle.settings.specs.declared.Settings.{Settings}
 use Rattle.gears.specs.Narrow.{fits32, narrowed, narrowOf}
 use Rattle.gears.specs.declared.narrow.Narrow.{Narrow}
@@ -32,10 +33,6 @@ sheet n d from low high =
       option = 2;
       rated = 1;
     }
-
--- −n
-abbrev minus : ℕ → ℤ
-minus n = negℤ (pos n)
 
 -- with limits that no 32-bit target is beyond
 abbrev unlimited : ℕ → ℕ → ℤ → Settings

@@ -7,7 +7,7 @@ use mathlib.Core.List.{List, [], _∷_, map}
 use mathlib.Core.Option.{Option, none, some}
 use Rattle.legs.specs.Legs.{Leg}
 use Rattle.legs.specs.Events.{View, eventCounts, limitCounts}
-use Rattle.legs.specs.Routes.{Entry, table, toLimit}
+use Rattle.legs.specs.Routes.{table, toLimit}
 use Rattle.legs.specs.Numbers.{isRoute}
 
 abbrev firstOf : List Leg → Option Leg
