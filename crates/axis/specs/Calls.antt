@@ -9,7 +9,6 @@ use lib.IntN.{ℤ}
 use Rattle.settings.specs.declared.Refusal.{Refusal}
 use Rattle.settings.specs.declared.Verdict.{Verdict}
 use Rattle.settings.specs.declared.Verdict.the-variants.{Accepted, Refused}
-use Rattle.words.specs.Decode.{settingsOf}
 use Rattle.reader.specs.Pending.{Reading, Complete}
 use Rattle.reader.specs.Cases.{isEnd}
 use Rattle.counts.specs.Bit.{bitOf}
@@ -25,7 +24,7 @@ use Rattle.rules.specs.Axis.{Nothing, Worded}
 use Rattle.rules.specs.Word.{withPending, taken, wordOf}
 use Rattle.rules.specs.Tick.{tickOf, gone}
 use Rattle.cells.specs.Cells.{settingsIn, activeIn, motionIn, axisIn, SettingsKept, FrontKept, MotionKept}
-use Rattle.cells.specs.Writes.{Cleared, emptied, InputsKept, valuesIn, Moved}
+use Rattle.cells.specs.Writes.{Cleared, emptied, InputsKept, Moved}
 
 -- a fresh axis; its words are zeros
 abbrev pub FreshCall : List ℕ → Type 0
@@ -59,13 +58,13 @@ pub record TickCall (l : List ℕ) (t : Tick) (m : List ℕ) (a : Answer) : Type
 abbrev pub readIn : List ℕ → Reading → Worded
 readIn l g = taken (withPending (axisIn l) (g .pending)) (g .outcome)
 
--- an end word that completes the settings of the values; what is pending has been emptied before, which leaves the values
-abbrev pub completedIn : List ℕ → Worded
-completedIn l = taken (axisIn l) (Complete (settingsOf (valuesIn l)))
+-- an end word that completes settings; what is pending has been emptied before
+abbrev pub completedIn : List ℕ → Settings → Worded
+completedIn l s = taken (axisIn l) (Complete s)
 
-pub record Completes (l m : List ℕ) (v : Verdict) : Type 0 where
-  pub axis : axisIn m ≡ completedIn l .axis
-  pub verdict : v ≡ completedIn l .verdict
+pub record Completes (l : List ℕ) (s : Settings) (m : List ℕ) (v : Verdict) : Type 0 where
+  pub axis : axisIn m ≡ completedIn l s .axis
+  pub verdict : v ≡ completedIn l s .verdict
   pub inputs : InputsKept l m
   pub kept : (v ≡ Accepted → ⊥) → m ≡ l
 

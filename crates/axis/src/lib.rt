@@ -4,14 +4,18 @@ mod under;
 use answers::Answer;
 use cells::Lent;
 use settings::Refusal;
+use settings::Settings;
 use settings::Verdict;
 use ticks::Tick;
 use words::KIND;
 ghost use mathlib.Core.Path.{_≡_};
 ghost use mathlib.Core.Bool.{true, false};
 ghost use Prim.Native.Nat.{_<_, _≤_};
-ghost use Rattle.reader.specs.Read.{startRead, fieldRead, endRead};
+ghost use Rattle.layouts.specs.Layout.{size};
+ghost use Rattle.words.specs.Decode.{settingsFrom};
+ghost use Rattle.reader.specs.Read.{layoutIn, startRead, fieldRead, endRead};
 ghost use Rattle.cells.specs.Cells.{pendingIn};
+ghost use Rattle.cells.specs.Writes.{fieldsIn};
 ghost use Rattle.axis.specs.Calls.{FreshCall, Takes, readIn, Completes, WordCall, TickCall};
 
 // A fresh axis: no settings, nothing pending, Not ready, homing idle.
@@ -26,7 +30,7 @@ fn start(axis: &mut Lent, layout: u32) -> Verdict
     ensures { λ r. ⌜ Takes (now (axis .entry)) false (readIn (now (axis .entry)) (startRead layout)) (now (axis .exit)) r ⌝ }
 {
     if kinds::field_ok(0, layout) {
-        cells::begin(axis);
+        cells::begin(axis, layout);
         Verdict::Accepted
     } else {
         cells::empty(axis);
@@ -36,7 +40,7 @@ fn start(axis: &mut Lent, layout: u32) -> Verdict
 
 // Keeps one word's data, of the kind that is due.
 fn store(axis: &mut Lent, kind: u32, value: u32) -> Verdict
-    requires { ⌜ (kind < 14) × (kind ≡ pendingIn (now axis) .count) ⌝ }
+    requires { ⌜ (kind < 15) × (kind ≡ pendingIn (now axis) .count) ⌝ }
     ensures { λ r. ⌜ Takes (now (axis .entry)) false (readIn (now (axis .entry)) (fieldRead (pendingIn (now (axis .entry))) kind value)) (now (axis .exit)) r ⌝ }
 {
     if kinds::field_ok(kind, value) {
@@ -49,27 +53,29 @@ fn store(axis: &mut Lent, kind: u32, value: u32) -> Verdict
 }
 
 // Complete settings come into force (01: takeover), unless the drive is live.
-fn complete(axis: &mut Lent) -> Verdict
-    ensures { λ r. ⌜ Completes (now (axis .entry)) (now (axis .exit)) r ⌝ }
+fn complete(axis: &mut Lent, s: Settings) -> Verdict
+    requires { ⌜ s ≡ settingsFrom (s .offset) (s .lower) (s .upper) (fieldsIn (now axis)) ⌝ }
+    ensures { λ r. ⌜ Completes (now (axis .entry)) s (now (axis .exit)) r ⌝ }
 {
     let state = cells::state(axis);
     if states::is_live(state) {
         Verdict::Refused(Refusal::DriveActive)
     } else {
-        cells::take_over(axis);
+        cells::take_over(axis, s.offset, s.lower, s.upper);
         Verdict::Accepted
     }
 }
 
 // An end word closes what is pending.
 fn finish(axis: &mut Lent, sum: u32) -> Verdict
-    requires { ⌜ 14 ≤ pendingIn (now axis) .count ⌝ }
+    requires { ⌜ size (layoutIn (pendingIn (now axis))) ≤ pendingIn (now axis) .count ⌝ }
     ensures { λ r. ⌜ Takes (now (axis .entry)) true (readIn (now (axis .entry)) (endRead (pendingIn (now (axis .entry))) sum)) (now (axis .exit)) r ⌝ }
 {
-    let verdict = reader::close(cells::pending_settings(axis), cells::checksum(axis), sum);
+    let s = cells::pending_settings(axis);
+    let verdict = reader::close(s, cells::checksum(axis), sum);
     cells::empty(axis);
     match verdict {
-        Verdict::Accepted => complete(axis),
+        Verdict::Accepted => complete(axis, s),
         Verdict::Refused(refusal) => Verdict::Refused(refusal),
     }
 }
@@ -82,10 +88,9 @@ pub fn word(axis: &mut Lent, word: u32) -> Verdict
     if kind == 0 {
         return start(axis, word % KIND);
     }
-    let count = cells::count(axis);
-    if kind == reader::due_kind(count) {
+    if kind == reader::due_kind(cells::layout(axis), cells::count(axis)) {
         let value = word % KIND;
-        if count < 14 {
+        if kind < 15 {
             store(axis, kind, value)
         } else {
             finish(axis, value)

@@ -17,9 +17,7 @@ use Rattle.legs.specs.Events.{switchesIn}
 use Rattle.homing.specs.Phase.{phaseOf}
 use Rattle.ticks.specs.Motion.{driven, phased, homeAt, fed}
 use Rattle.words.specs.Encode.{total}
-use Rattle.words.specs.Decode.{settingsOf}
 use Rattle.reader.specs.Read.{started, kept}
-use Rattle.homing.specs.Phase.{phaseOf}
 use Rattle.patterns.specs.Patterns.{wordAt, stateAt, modeAt}
 use Rattle.patterns.proofs.Back.{signed-back, state-back, mode-back}
 use Rattle.cells.specs.Lists.{cellsFrom}
@@ -35,37 +33,44 @@ pub unchanged : {l : List ℕ} → Pends l (pendingIn l) l
 unfolding axisIn
 unchanged = record { axis = refl; settings = refl; motion = refl }
 
-module _ (l : List ℕ) (h : length l ≡ 37) where
+module _ (l : List ℕ) (h : length l ≡ 38) where
   pub emptying : Emptied l (emptied l)
   unfolding axisIn activeIn
-  emptying = record { pends = rw (spelled 37 l h) (record { axis = refl; settings = refl; motion = refl }); words = refl }
+  emptying = record { pends = rw (spelled 38 l h) (record { axis = refl; settings = refl; motion = refl }); words = refl }
 
-  pub begun : Pends l started (set (set l 14 1) 15 1)
+  pub begun : (layout : ℕ) → Pends l (started layout) (set (set l 14 1) 15 layout)
   unfolding axisIn activeIn
-  begun = rw (spelled 37 l h) (record { axis = refl; settings = refl; motion = refl })
+  begun layout = rw (spelled 38 l h) (record { axis = refl; settings = refl; motion = refl })
 
-  -- a store at a computed place: each of the fourteen computes
-  pub stored-value : (k x : ℕ) → k < 14 → wordAt l 14 ≡ k → Pends l (kept (pendingIn l) k x) (set (set l (15 + k) x) 14 (k + 1))
+  -- a store at a computed place: each of the fifteen computes
+  pub stored-value : (k x : ℕ) → k < 15 → wordAt l 14 ≡ k → Pends l (kept (pendingIn l) k x) (set (set l (15 + k) x) 14 (k + 1))
   unfolding axisIn activeIn
-  stored-value zero x b e = rw (spelled 37 l h, e) (record { axis = refl; settings = refl; motion = refl })
-  stored-value (suc zero) x b e = rw (spelled 37 l h, e) (record { axis = refl; settings = refl; motion = refl })
-  stored-value (suc (suc zero)) x b e = rw (spelled 37 l h, e) (record { axis = refl; settings = refl; motion = refl })
-  stored-value (suc (suc (suc zero))) x b e = rw (spelled 37 l h, e) (record { axis = refl; settings = refl; motion = refl })
-  stored-value (suc (suc (suc (suc zero)))) x b e = rw (spelled 37 l h, e) (record { axis = refl; settings = refl; motion = refl })
-  stored-value (suc (suc (suc (suc (suc zero))))) x b e = rw (spelled 37 l h, e) (record { axis = refl; settings = refl; motion = refl })
-  stored-value (suc (suc (suc (suc (suc (suc zero)))))) x b e = rw (spelled 37 l h, e) (record { axis = refl; settings = refl; motion = refl })
-  stored-value (suc (suc (suc (suc (suc (suc (suc zero))))))) x b e = rw (spelled 37 l h, e) (record { axis = refl; settings = refl; motion = refl })
-  stored-value (suc (suc (suc (suc (suc (suc (suc (suc zero)))))))) x b e = rw (spelled 37 l h, e) (record { axis = refl; settings = refl; motion = refl })
-  stored-value (suc (suc (suc (suc (suc (suc (suc (suc (suc zero))))))))) x b e = rw (spelled 37 l h, e) (record { axis = refl; settings = refl; motion = refl })
-  stored-value (suc (suc (suc (suc (suc (suc (suc (suc (suc (suc zero)))))))))) x b e = rw (spelled 37 l h, e) (record { axis = refl; settings = refl; motion = refl })
-  stored-value (suc (suc (suc (suc (suc (suc (suc (suc (suc (suc (suc zero))))))))))) x b e = rw (spelled 37 l h, e) (record { axis = refl; settings = refl; motion = refl })
-  stored-value (suc (suc (suc (suc (suc (suc (suc (suc (suc (suc (suc (suc zero)))))))))))) x b e = rw (spelled 37 l h, e) (record { axis = refl; settings = refl; motion = refl })
-  stored-value (suc (suc (suc (suc (suc (suc (suc (suc (suc (suc (suc (suc (suc zero))))))))))))) x b e = rw (spelled 37 l h, e) (record { axis = refl; settings = refl; motion = refl })
-  stored-value (suc (suc (suc (suc (suc (suc (suc (suc (suc (suc (suc (suc (suc (suc k)))))))))))))) x b e = absurd (omega arith)
+  stored-value zero x b e = rw (spelled 38 l h, e) (record { axis = refl; settings = refl; motion = refl })
+  stored-value (suc zero) x b e = rw (spelled 38 l h, e) (record { axis = refl; settings = refl; motion = refl })
+  stored-value (suc (suc zero)) x b e = rw (spelled 38 l h, e) (record { axis = refl; settings = refl; motion = refl })
+  stored-value (suc (suc (suc zero))) x b e = rw (spelled 38 l h, e) (record { axis = refl; settings = refl; motion = refl })
+  stored-value (suc (suc (suc (suc zero)))) x b e = rw (spelled 38 l h, e) (record { axis = refl; settings = refl; motion = refl })
+  stored-value (suc (suc (suc (suc (suc zero))))) x b e = rw (spelled 38 l h, e) (record { axis = refl; settings = refl; motion = refl })
+  stored-value (suc (suc (suc (suc (suc (suc zero)))))) x b e = rw (spelled 38 l h, e) (record { axis = refl; settings = refl; motion = refl })
+  stored-value (suc (suc (suc (suc (suc (suc (suc zero))))))) x b e = rw (spelled 38 l h, e) (record { axis = refl; settings = refl; motion = refl })
+  stored-value (suc (suc (suc (suc (suc (suc (suc (suc zero)))))))) x b e = rw (spelled 38 l h, e) (record { axis = refl; settings = refl; motion = refl })
+  stored-value (suc (suc (suc (suc (suc (suc (suc (suc (suc zero))))))))) x b e = rw (spelled 38 l h, e) (record { axis = refl; settings = refl; motion = refl })
+  stored-value (suc (suc (suc (suc (suc (suc (suc (suc (suc (suc zero)))))))))) x b e = rw (spelled 38 l h, e) (record { axis = refl; settings = refl; motion = refl })
+  stored-value (suc (suc (suc (suc (suc (suc (suc (suc (suc (suc (suc zero))))))))))) x b e = rw (spelled 38 l h, e) (record { axis = refl; settings = refl; motion = refl })
+  stored-value (suc (suc (suc (suc (suc (suc (suc (suc (suc (suc (suc (suc zero)))))))))))) x b e = rw (spelled 38 l h, e) (record { axis = refl; settings = refl; motion = refl })
+  stored-value (suc (suc (suc (suc (suc (suc (suc (suc (suc (suc (suc (suc (suc zero))))))))))))) x b e = rw (spelled 38 l h, e) (record { axis = refl; settings = refl; motion = refl })
+  stored-value (suc (suc (suc (suc (suc (suc (suc (suc (suc (suc (suc (suc (suc (suc zero)))))))))))))) x b e = rw (spelled 38 l h, e) (record { axis = refl; settings = refl; motion = refl })
+  stored-value (suc (suc (suc (suc (suc (suc (suc (suc (suc (suc (suc (suc (suc (suc (suc k))))))))))))))) x b e = absurd (omega arith)
 
-  pub taken-over : TakenOver l (set (set (copied 13 l) 0 1) 32 0)
-  unfolding axisIn activeIn phaseOf settingsOf
-  taken-over = rw (spelled 37 l h) (record { axis = refl; pending = refl; motion = record { before = refl; after = refl } })
+  pub taken-over : (offset lower upper : ℤ) → mag offset < 2 ^ 31 → mag lower < 2 ^ 31 → mag upper < 2 ^ 31
+      → TakenOver l offset lower upper (set (set (set (set (set (copied 13 l) 0 1) 4 (modulo 32 offset)) 7 (modulo 32 lower)) 8 (modulo 32 upper)) 33 0)
+  unfolding axisIn activeIn phaseOf
+  taken-over offset lower upper f g k =
+      record {
+        axis = rw (spelled 38 l h, signed-back offset f, signed-back lower g, signed-back upper k);
+        pending = rw (spelled 38 l h);
+        motion = rw (spelled 38 l h) (record { before = refl; after = refl });
+      }
 
 -- a store leaves the words past it
 pub cells-past : (l : List ℕ) (i x k n : ℕ) → i < k → cellsFrom k n (set l i x) ≡ cellsFrom k n l
@@ -95,23 +100,23 @@ summed l k zero = let i : k + 0 ≡ k = omega arith in rw i (omega arith)
 summed l k (suc n) = let i : k + suc n ≡ suc k + n = omega arith in rw i (let e = summed l (suc k) n in omega (arith, e))
 
 -- the parts of motion: what is stored reads back
-module _ (l : List ℕ) (h : length l ≡ 37) where
+module _ (l : List ℕ) (h : length l ≡ 38) where
   pub driven-words : (state : State) (mode : Mode) (alarm : ℕ)
-      → Moved l (driven (motionIn l) state mode alarm) (set (set (set l 29 (stateNumber state)) 30 (modeOrdinal mode)) 31 alarm)
+      → Moved l (driven (motionIn l) state mode alarm) (set (set (set l 30 (stateNumber state)) 31 (modeOrdinal mode)) 32 alarm)
   unfolding axisIn activeIn
-  driven-words state mode alarm = record { axis = rw (spelled 37 l h, state-back state, mode-back mode); kept = rw (spelled 37 l h) }
+  driven-words state mode alarm = record { axis = rw (spelled 38 l h, state-back state, mode-back mode); kept = rw (spelled 38 l h) }
 
-  pub phased-words : (phase : ℕ) → Moved l (phased (motionIn l) (phaseOf phase)) (set l 32 phase)
+  pub phased-words : (phase : ℕ) → Moved l (phased (motionIn l) (phaseOf phase)) (set l 33 phase)
   unfolding axisIn activeIn
-  phased-words phase = record { axis = rw (spelled 37 l h); kept = rw (spelled 37 l h) }
+  phased-words phase = record { axis = rw (spelled 38 l h); kept = rw (spelled 38 l h) }
 
-  pub home-words : (home : ℤ) → mag home < 2 ^ 31 → Moved l (homeAt (motionIn l) home) (set l 33 (modulo 32 home))
+  pub home-words : (home : ℤ) → mag home < 2 ^ 31 → Moved l (homeAt (motionIn l) home) (set l 34 (modulo 32 home))
   unfolding axisIn activeIn
-  home-words home f = record { axis = rw (spelled 37 l h, signed-back home f); kept = rw (spelled 37 l h) }
+  home-words home f = record { axis = rw (spelled 38 l h, signed-back home f); kept = rw (spelled 38 l h) }
 
   pub fed-words : (control switches : ℕ) (position : ℤ) → control < 2 ^ 16 → mag position < 2 ^ 31
-      → Moved l (fed (motionIn l) control (switchesIn switches) position) (set (set (set l 34 control) 35 switches) 36 (modulo 32 position))
+      → Moved l (fed (motionIn l) control (switchesIn switches) position) (set (set (set l 35 control) 36 switches) 37 (modulo 32 position))
   unfolding axisIn activeIn
   fed-words control switches position f g =
       let k : control % 2 ^ 16 ≡ control = omega arith in
-      record { axis = rw (spelled 37 l h, k, signed-back position g); kept = rw (spelled 37 l h) }
+      record { axis = rw (spelled 38 l h, k, signed-back position g); kept = rw (spelled 38 l h) }

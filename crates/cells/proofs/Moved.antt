@@ -6,7 +6,6 @@ use mathlib.Core.List.{List, _∷_}
 use native.Mathlib.Omega.{arith}
 use lib.ListN.{take}
 use lib.Seq.{getD-take}
-use Rattle.words.specs.Decode.{settingsOf}
 use Rattle.ticks.specs.Motion.{Motion}
 use Rattle.rules.specs.Axis.{Axis}
 use Rattle.rules.specs.Tick.{withMotion}
@@ -26,7 +25,7 @@ module _ {l m : List ℕ} {a : Motion} (w : Moved l a m) where
 
   pub settings-moved : settingsIn m ≡ settingsIn l
   settings-moved =
-      ap settingsOf (sym (cells-front 29 0 14 m (omega arith)) ∙ ap (cellsFrom 0 14) (w .kept) ∙ cells-front 29 0 14 l (omega arith))
+      ap settingsIn (sym (cells-front 30 0 14 m (omega arith)) ∙ ap (cellsFrom 0 14) (w .kept) ∙ cells-front 30 0 14 l (omega arith))
 
   pub moved-again : {b : Motion} {n : List ℕ} → Moved m b n → Moved l b n
   moved-again {b} v = record { axis = v .axis ∙ ap (λ (x : Axis). withMotion x b) (w .axis); kept = v .kept ∙ w .kept }

@@ -3,10 +3,11 @@
 use Prim.Native.Nat.{ℕ, zero, suc, _+_}
 use mathlib.Core.Path.{_≡_}
 use mathlib.Core.Bool.{cond}
-use mathlib.Core.List.{List}
+use mathlib.Core.List.{List, [], _∷_, _++_}
 use lib.Dec.{ltb}
+use lib.IntN.{ℤ}
 use lib.ListN.{take, drop, set, replicate}
-use Rattle.words.specs.Decode.{settingsOf}
+use Rattle.words.specs.Decode.{settingsFrom}
 use Rattle.reader.specs.Pending.{Pending}
 use Rattle.reader.specs.Read.{emptyPending, started, kept}
 use Rattle.ticks.specs.Motion.{Motion, idled}
@@ -15,11 +16,11 @@ use Rattle.rules.specs.Word.{withPending}
 use Rattle.rules.specs.Tick.{withMotion}
 use Rattle.patterns.specs.Patterns.{wordAt}
 use Rattle.cells.specs.Lists.{cellsFrom}
-use Rattle.cells.specs.Cells.{pendingIn, motionIn, axisIn, SettingsKept, PendingKept, FrontKept, MotionKept}
+use Rattle.cells.specs.Cells.{valueIn, pendingIn, motionIn, axisIn, SettingsKept, PendingKept, FrontKept, MotionKept}
 
 pub record Cleared (m : List ℕ) : Type 0 where
   pub axis : axisIn m ≡ freshAxis
-  pub words : m ≡ replicate 37 0
+  pub words : m ≡ replicate 38 0
 
 -- other pending settings, and nothing else
 pub record Pends (l : List ℕ) (p : Pending) (m : List ℕ) : Type 0 where
@@ -35,33 +36,37 @@ pub record Emptied (l m : List ℕ) : Type 0 where
   pub pends : Pends l emptyPending m
   pub words : m ≡ emptied l
 
-abbrev pub Begun : List ℕ → List ℕ → Type 0
-Begun l m = Pends l started m
+abbrev pub Begun : List ℕ → ℕ → List ℕ → Type 0
+Begun l layout m = Pends l (started layout) m
 
 -- one value more, where there is room for it
 abbrev pub more : Pending → ℕ → Pending
-more p x = cond (ltb (p .count) 14) (kept p (p .count) x) p
+more p x = cond (ltb (p .count) 15) (kept p (p .count) x) p
 
 abbrev pub Appended : List ℕ → ℕ → List ℕ → Type 0
 Appended l x m = Pends l (more (pendingIn l) x) m
 
 -- all words of motion but the phase
 pub record InputsKept (l m : List ℕ) : Type 0 where
-  pub before : take 3 (drop 29 m) ≡ take 3 (drop 29 l)
-  pub after : drop 33 m ≡ drop 33 l
+  pub before : take 3 (drop 30 m) ≡ take 3 (drop 30 l)
+  pub after : drop 34 m ≡ drop 34 l
 
--- the words of the pending values as they stand; all of them have come where an end word is due
+-- the words of the pending values of kinds 0 to 13 as they stand; all of them have come where an end word is due
+abbrev pub fieldsIn : List ℕ → List ℕ
+fieldsIn l = cellsFrom 15 14 l
+
+-- and kind 14's, which has come in layout 2 alone
 abbrev pub valuesIn : List ℕ → List ℕ
-valuesIn l = cellsFrom 15 14 l
+valuesIn l = fieldsIn l ++ valueIn l 14 ∷ []
 
 -- words 1 to k are the values of the same kinds
 abbrev pub copied : ℕ → List ℕ → List ℕ
 copied zero l = l
 copied (suc k) l = set (copied k l) (suc k) (wordAt l (16 + k))
 
--- the settings of these values come into force
-pub record TakenOver (l m : List ℕ) : Type 0 where
-  pub axis : axisIn m ≡ record { active = Set (settingsOf (valuesIn l)); pending = pendingIn l; motion = idled (motionIn l) }
+-- the settings of these values come into force, with offset and limits given
+pub record TakenOver (l : List ℕ) (offset lower upper : ℤ) (m : List ℕ) : Type 0 where
+  pub axis : axisIn m ≡ record { active = Set (settingsFrom offset lower upper (fieldsIn l)); pending = pendingIn l; motion = idled (motionIn l) }
   pub pending : PendingKept l m
   pub motion : InputsKept l m
 

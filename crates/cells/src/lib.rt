@@ -11,18 +11,25 @@ ghost use lib.ListN.{length};
 ghost use Rattle.homing.specs.Phase.{phaseOf};
 ghost use Rattle.words.specs.Decode.{settingsOf};
 ghost use Rattle.words.specs.Encode.{checksumOf};
+ghost use Rattle.reader.specs.Read.{layoutIn};
 ghost use Rattle.legs.specs.Events.{switchesIn};
 ghost use Rattle.patterns.specs.Patterns.{wordAt};
 ghost use Rattle.ticks.specs.Motion.{driven, phased, homeAt, fed};
 ghost use Rattle.cells.specs.Lists.{cellsFrom};
-ghost use Rattle.cells.specs.Cells.{settingsIn, pendingIn, motionIn};
-ghost use Rattle.cells.specs.Writes.{Cleared, Emptied, Begun, Appended, valuesIn, copied, TakenOver, Moved};
+ghost use Rattle.cells.specs.Cells.{settingsIn, valueIn, pendingIn, motionIn};
+ghost use Rattle.cells.specs.Writes.{Cleared, Emptied, Begun, Appended, fieldsIn, valuesIn, copied, TakenOver, Moved};
 
-// The lent words: the settings in force, what is pending, motion. Words 0 to 13 are the data of the settings words that came into force;
-// the first, the start word's, is 0 where none did.
-pub type Lent = [u32; 37];
+// The lent words: the settings in force, what is pending, motion. Words 0 to 13 are the data of the settings words that came into force, but
+// offset and position limits, which stand whole; the first is 1, and 0 where none did.
+pub type Lent = [u32; 38];
 
 const METHOD: usize = 1;
+
+const OFFSET: usize = 4;
+
+const LOWER: usize = 7;
+
+const UPPER: usize = 8;
 
 const OPTION: usize = 12;
 
@@ -33,25 +40,28 @@ const COUNT: usize = 14;
 
 const VALUES: usize = 15;
 
-const STATE: usize = 29;
+// Kind 14's data.
+const TOPS: usize = 29;
 
-const MODE: usize = 30;
+const STATE: usize = 30;
 
-const ALARM: usize = 31;
+const MODE: usize = 31;
 
-const PHASE: usize = 32;
+const ALARM: usize = 32;
 
-const HOME: usize = 33;
+const PHASE: usize = 33;
 
-const CONTROL: usize = 34;
+const HOME: usize = 34;
 
-const SWITCHES: usize = 35;
+const CONTROL: usize = 35;
 
-const POSITION: usize = 36;
+const SWITCHES: usize = 36;
+
+const POSITION: usize = 37;
 
 // By value an array tells its length; in a contract, a reference to it does not.
 fn lent(axis: Lent)
-    ensures { λ _. ⌜ length axis ≡ 37 ⌝ }
+    ensures { λ _. ⌜ length axis ≡ 38 ⌝ }
 {}
 
 // Whether settings are in force.
@@ -86,8 +96,11 @@ fn active_values(axis: &Lent) -> [u32; 14]
 pub fn settings_in(axis: &Lent) -> Settings
     ensures { λ r. ⌜ r ≡ settingsIn (now (axis .entry)) ⌝ }
 {
+    let offset = patterns::signed(axis[OFFSET]);
+    let lower = patterns::signed(axis[LOWER]);
+    let upper = patterns::signed(axis[UPPER]);
     let values = active_values(axis);
-    decoder::decode(values)
+    decoder::decode_with(offset, lower, upper, values)
 }
 
 pub fn method(axis: &Lent) -> u32
@@ -115,8 +128,16 @@ pub fn count(axis: &Lent) -> u32
     axis[COUNT]
 }
 
+// The layout of the pending settings; 0 where nothing is pending.
+pub fn layout(axis: &Lent) -> u32
+    ensures { λ r. ⌜ r ≡ layoutIn (pendingIn (now (axis .entry))) ⌝ }
+{
+    if axis[COUNT] == 0 { 0 } else { axis[VALUES] }
+}
+
+// Their values of kinds 0 to 13, where all have come.
 fn values(axis: &Lent) -> [u32; 14]
-    ensures { λ r. ⌜ r ≡ valuesIn (now (axis .entry)) ⌝ }
+    ensures { λ r. ⌜ r ≡ fieldsIn (now (axis .entry)) ⌝ }
 {
     [
         axis[VALUES],
@@ -136,19 +157,26 @@ fn values(axis: &Lent) -> [u32; 14]
     ]
 }
 
+// Kind 14's, which has come in layout 2 alone.
+fn tops(axis: &Lent) -> u32
+    ensures { λ r. ⌜ r ≡ valueIn (now (axis .entry)) 14 ⌝ }
+{
+    if axis[COUNT] > 14 { axis[TOPS] } else { 0 }
+}
+
 // The settings of the pending values, where all have come.
 pub fn pending_settings(axis: &Lent) -> Settings
     ensures { λ r. ⌜ r ≡ settingsOf (valuesIn (now (axis .entry))) ⌝ }
 {
     let values = values(axis);
-    decoder::decode(values)
+    decoder::decode(values, tops(axis))
 }
 
 // The sum of these values, modulo 2^28.
 pub fn checksum(axis: &Lent) -> u32
     ensures { λ r. ⌜ r ≡ checksumOf (valuesIn (now (axis .entry))) ⌝ }
 {
-    let mut total: u32 = 0;
+    let mut total = tops(axis);
     for i in 0..14 {
         total = std::num::wrapping_add_u32(total, axis[VALUES + i]);
     }
@@ -208,7 +236,7 @@ pub fn position(axis: &Lent) -> i32
 pub fn clear(axis: &mut Lent)
     ensures { λ _. ⌜ Cleared (now (axis .exit)) ⌝ }
 {
-    *axis = [0; 37];
+    *axis = [0; 38];
 }
 
 // Nothing is pending.
@@ -220,12 +248,12 @@ pub fn empty(axis: &mut Lent)
 }
 
 // A start word is pending.
-pub fn begin(axis: &mut Lent)
-    ensures { λ _. ⌜ Begun (now (axis .entry)) (now (axis .exit)) ⌝ }
+pub fn begin(axis: &mut Lent, layout: u32)
+    ensures { λ _. ⌜ Begun (now (axis .entry)) layout (now (axis .exit)) ⌝ }
 {
     lent(*axis);
     axis[COUNT] = 1;
-    axis[VALUES] = 1;
+    axis[VALUES] = layout;
 }
 
 // One word's data more is pending, unless all have come.
@@ -234,7 +262,7 @@ pub fn append(axis: &mut Lent, value: u32)
 {
     lent(*axis);
     let count = axis[COUNT];
-    if count < 14 {
+    if count < 15 {
         let place = VALUES + count as usize;
         axis[place] = value;
         axis[COUNT] = count + 1;
@@ -249,13 +277,16 @@ fn copy_values(axis: &mut Lent)
     }
 }
 
-// The settings of the values that are pending come into force, and homing is idle (01: takeover).
-pub fn take_over(axis: &mut Lent)
-    ensures { λ _. ⌜ TakenOver (now (axis .entry)) (now (axis .exit)) ⌝ }
+// The settings of the values that are pending come into force, with offset and position limits given, and homing is idle (01: takeover).
+pub fn take_over(axis: &mut Lent, offset: i32, lower: i32, upper: i32)
+    ensures { λ _. ⌜ TakenOver (now (axis .entry)) offset lower upper (now (axis .exit)) ⌝ }
 {
     lent(*axis);
     copy_values(axis);
     axis[0] = 1;
+    axis[OFFSET] = counts::pattern(offset);
+    axis[LOWER] = counts::pattern(lower);
+    axis[UPPER] = counts::pattern(upper);
     axis[PHASE] = homing::IDLE;
 }
 

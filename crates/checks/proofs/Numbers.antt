@@ -35,7 +35,7 @@ check-number s = go (inRange s)
     go false = refl
 
 -- accepted, and only then
-refused-accepted : {X : Type 0} (r : Refusal) → Refused r ≡ Accepted → X
+pub refused-accepted : {X : Type 0} (r : Refusal) → Refused r ≡ Accepted → X
 refused-accepted r e = let z : _≡_ {A = ℕ} 0 1 = cc in absurd (omega arith)
 
 pub accepts : (s : Settings) → (verdictOf s ≡ Accepted) ↔ (acceptable s ≡ true)

@@ -172,6 +172,10 @@ fn print_usage() {
         STDOUT_FILENO,
         b"  sheet LENGTH METHOD FAST SLOW OFFSET NUM DEN LOWER UPPER MAX P1 N1 P2 N2 OPTION RATED\n",
     );
+    io::write_all(
+        STDOUT_FILENO,
+        b"  layout LAYOUT LENGTH METHOD FAST SLOW OFFSET NUM DEN LOWER UPPER MAX P1 N1 P2 N2 OPTION RATED\n",
+    );
     io::write_all(STDOUT_FILENO, b"  fresh\n");
     io::write_all(
         STDOUT_FILENO,

@@ -2,3 +2,4 @@ pub mod Integers
 pub mod Modulo
 pub mod Floor
 pub mod Between
+pub mod Fits

@@ -1,4 +1,5 @@
 pub mod Wrap
+pub mod Fits
 pub mod Movement
 pub mod Divide
 pub mod Clamp

@@ -1,6 +1,6 @@
 -- Settings in force are acceptable: they are the last ones that words completed, and only acceptable ones are completed.
 -- Assumes nothing.
-use Prim.Native.Nat.{ℕ, _^_, _<_}
+use Prim.Native.Nat.{ℕ}
 use mathlib.Core.Path.{_≡_, refl, sym, ap, subst, _∙_}
 use mathlib.Core.Bool.{Bool, true, false, cond, _&&_}
 use mathlib.Core.List.{List, [], _∷_, _++_}
@@ -11,10 +11,10 @@ use Rattle.settings.specs.declared.Settings.{Settings}
 use Rattle.settings.specs.Ranges.{inRange}
 use Rattle.settings.proofs.Within.{both}
 use Rattle.gears.specs.Gear.{inReach}
-use Rattle.checks.specs.Check.{limitsApart, acceptable}
-use Rattle.words.specs.Word.{dataOf}
+use Rattle.checks.specs.Check.{limitsApart, acceptable, sendable}
 use Rattle.words.specs.Encode.{wordsOf}
-use Rattle.words.proofs.Bits.{position-kept}
+use Rattle.words.specs.Decode.{layoutOf, positionOf}
+use Rattle.checks.proofs.Sends.{sends}
 use Rattle.states.specs.States.{liveOf}
 use Rattle.commands.specs.Commands.{wholeDemand}
 use Rattle.torque.proofs.Guard.{torque-plain}
@@ -27,8 +27,8 @@ use Rattle.rules.specs.Axis.{Active, Nothing, Set}
 use Rattle.rules.specs.Tick.{tickUnder, tickOf}
 use Rattle.demands.specs.Events.{Event, word, tick}
 use Rattle.demands.specs.Replies.{axisOf}
-use Rattle.words.specs.Word.{sameWords}
-use Rattle.demands.specs.Takeover.{lastFifteen, carried, completedBy}
+use Rattle.words.specs.Word.{sameWords, latest}
+use Rattle.demands.specs.Takeover.{carried, completedBy}
 use Rattle.demands.specs.Known.{Known, atFirst, takesOver, afterWord, afterTick, next, knownFrom}
 use Rattle.demands.specs.Acceptable.{InForceAcceptable, Plain, PlainAnswers, PlainData}
 use Rattle.demands.proofs.Kept.{matches}
@@ -40,10 +40,13 @@ Good (Set s) = acceptable s ≡ true
 
 completed-good : (ws : List ℕ) → Good (completedBy ws)
 unfolding completedBy
-completed-good ws = go (sameWords (lastFifteen ws) (wordsOf (carried ws))) (acceptable (carried ws)) refl
+completed-good ws = go (sameWords (latest ws) (wordsOf (layoutOf (latest ws)) s)) (sendable (layoutOf (latest ws)) s) refl
   where
-    go : (b c : Bool) → acceptable (carried ws) ≡ c → Good (cond (b && c) (Set (carried ws)) Nothing)
-    go true true e = e
+    s : Settings
+    s = carried (latest ws)
+
+    go : (b c : Bool) → sendable (layoutOf (latest ws)) s ≡ c → Good (cond (b && c) (Set s) Nothing)
+    go true true e = sends (layoutOf (latest ws)) s e .good
     go true false e = tt
     go false c e = tt
 
@@ -96,6 +99,9 @@ plain-answers es t s e =
     })
 
 pub plain-data : PlainData
-plain-data d kind w e =
-    let h : dataOf w < 2 ^ 28 = omega arith in
-    position-kept d kind (rw e h) ∙ ap (signed 28) e
+unfolding positionOf
+plain-data =
+    record {
+      layout1 = λ w top. ap (signed 28) (omega arith);
+      layout2 = λ w top h. ap (signed 32) (omega arith);
+    }

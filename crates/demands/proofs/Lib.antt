@@ -4,4 +4,5 @@ pub mod Kept
 pub mod Promised
 pub mod Acceptable
 pub mod Whole
+pub mod Written
 pub mod Came

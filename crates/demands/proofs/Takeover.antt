@@ -1,30 +1,33 @@
--- The settings that words complete, read off their last fifteen, are those that the reader hands out at the last of them.
+-- The settings that words complete, read off the words from the latest start word on, are those that the reader hands out at the last of them.
 -- Assumes nothing.
 use Prim.Native.Nat.{ℕ, _+_, _-_, _*_, _%_, _^_}
 use mathlib.Core.Path.{_≡_, refl, sym, ap, _∙_}
 use mathlib.Core.Bool.{Bool, true, false, cond, _&&_, false≢true}
-use mathlib.Core.List.{List, [], _∷_, _++_, map}
+use mathlib.Core.List.{List, [], _∷_, _++_, map, append-nil}
 use native.Mathlib.Omega.{arith}
 use borrow.Author.Tests.{eq-eqb, eqb-true}
 use lib.Dec.{eqb}
-use lib.ListN.{length, take, length-append, take-append-drop}
-use lib.Seq.{take-at, drop-at}
+use lib.ListN.{length, take}
+use lib.Seq.{take-at}
 use Rattle.settings.specs.declared.Settings.{Settings}
-use Rattle.checks.specs.Check.{acceptable}
-use Rattle.checks.proofs.Numbers.{passes}
 use Rattle.settings.proofs.Within.{both}
-use Rattle.words.specs.Word.{dataOf, packed, sameWords}
-use Rattle.words.specs.Encode.{valuesOf, checksumOf, wordsFrom, wordsOf}
-use Rattle.words.specs.Decode.{settingsOf}
-use Rattle.words.proofs.Words.{length-words, length-sealed}
-use Rattle.words.proofs.Widths.{Below, values-below}
+use Rattle.layouts.specs.Layout.{size}
+use Rattle.checks.specs.Check.{sendable}
+use Rattle.checks.proofs.Numbers.{passes}
+use Rattle.words.specs.Word.{kindOf, dataOf, packed, sameWords, latest}
+use Rattle.words.specs.Encode.{checksumOf, wordsFrom, sent, valuesOf, wordsOf}
+use Rattle.words.specs.Decode.{layoutOf, settingsOf}
+use Rattle.words.proofs.Words.{length-words}
+use Rattle.words.proofs.Widths.{Below}
 use Rattle.reader.specs.Pending.{Outcome, Refused, Stored, Complete}
-use Rattle.reader.specs.Read.{readOf}
+use Rattle.reader.specs.Read.{layoutIn, readOf}
 use Rattle.roundtrip.specs.Stream.{pendingAfter, EndsIn}
-use Rattle.roundtrip.proofs.Values.{values-read}
+use Rattle.checks.proofs.Sends.{sends}
+use Rattle.roundtrip.proofs.Values.{values-read, padded, sent-size, sent-below, settings-padded}
+use Rattle.roundtrip.proofs.Once.{from-start, ends-latest}
 use Rattle.roundtrip.proofs.Completed.{completes, completed}
 use Rattle.rules.specs.Axis.{Active, Nothing, Set}
-use Rattle.demands.specs.Takeover.{lastFifteen, carried, completedBy}
+use Rattle.demands.specs.Takeover.{carried, completedBy, CompletedExactly}
 
 same-refl : (xs : List ℕ) → sameWords xs xs ≡ true
 same-refl [] = refl
@@ -48,54 +51,67 @@ data-words k (x ∷ xs) b =
     let h : (k * 2 ^ 28 + x) % 2 ^ 28 ≡ x = omega (arith, b .0) in
     rw (h, data-words (k + 1) xs (b .1))
 
-values-length : (s : Settings) → length (valuesOf s) ≡ 14
-unfolding valuesOf
-values-length s = refl
+-- the words before the latest start word
+record Split (ws : List ℕ) : Type 0 where
+  before : List ℕ
+  whole : ws ≡ before ++ latest ws
 
-pub words-length : (s : Settings) → length (wordsOf s) ≡ 15
-unfolding wordsOf
-words-length s = length-sealed (valuesOf s) ∙ ap (λ (n : ℕ). n + 1) (values-length s)
-
--- words that end in a settings' words: their last fifteen, and what these carry
-last-is : (before : List ℕ) (s : Settings) → lastFifteen (before ++ wordsOf s) ≡ wordsOf s
-last-is before s =
-    let n : length (before ++ wordsOf s) - 15 ≡ length before = omega (arith, length-append before (wordsOf s), words-length s) in
-    rw n (drop-at before (wordsOf s) (length before) refl)
-
-front-is : (s : Settings) → acceptable s ≡ true → settingsOf (map dataOf (take 14 (wordsOf s))) ≡ s
-unfolding wordsOf
-front-is s a =
-    let ok = passes s a .range in
-    let n : length (wordsFrom 0 (valuesOf s)) ≡ 14 = length-words 0 (valuesOf s) ∙ values-length s in
-    rw (take-at (wordsFrom 0 (valuesOf s)) (packed 15 (checksumOf (valuesOf s)) ∷ []) 14 n, data-words 0 (valuesOf s) (values-below s ok))
-    (values-read s ok)
-
-pub found : (s : Settings) (ws : List ℕ) → EndsIn s ws → completedBy ws ≡ Set s
-unfolding completedBy
-found s ws e =
-    let l : lastFifteen ws ≡ wordsOf s = ap lastFifteen (e .words) ∙ last-is (e .before) s in
-    let c : carried ws ≡ s = ap (λ (us : List ℕ). settingsOf (map dataOf (take 14 us))) l ∙ front-is s (e .sound) in
-    rw (c, l, same-refl (wordsOf s), e .sound)
-
-pub sound : (s : Settings) (ws : List ℕ) → completedBy ws ≡ Set s → EndsIn s ws
-unfolding completedBy
-sound s ws e = go (sameWords (lastFifteen ws) (wordsOf (carried ws))) refl (acceptable (carried ws)) refl e
+split : (ws : List ℕ) → Split ws
+unfolding latest
+split [] = record { before = []; whole = refl }
+split (w ∷ ws) = go (latest ws) refl (eqb (kindOf w) 0) refl (split ws)
   where
+    go : (r : List ℕ) → latest ws ≡ r → (b : Bool) → eqb (kindOf w) 0 ≡ b → Split ws → Split (w ∷ ws)
+    go [] e true q s = record { before = []; whole = rw (e, q) }
+    go [] e false q s = record { before = w ∷ ws; whole = rw (e, q, append-nil ws) }
+    go (x ∷ xs) e b q s = record { before = w ∷ s .before; whole = rw e (ap (λ (t : List ℕ). w ∷ t) (rw e at (s .whole))) }
+
+module _ (l : ℕ) (s : Settings) where
+  layout-is : layoutOf (wordsOf l s) ≡ l
+  layout-is = rw (from-start l s) (omega arith)
+
+  -- what is not sent is not missed
+  settings-sent : settingsOf (sent l s) ≡ settingsOf (valuesOf l s)
+  settings-sent = sym (settings-padded (sent l s) (15 - size l)) ∙ ap settingsOf (sym (padded l s))
+
+  carried-is : sendable l s ≡ true → carried (wordsOf l s) ≡ s
+  unfolding wordsOf
+  carried-is a =
+      let h = sends l s a in
+      let ok = passes s (h .good) .range in
+      let end = packed 15 (checksumOf (sent l s)) ∷ [] in
+      let n : length (wordsFrom 0 (sent l s)) ≡ size l = length-words 0 (sent l s) ∙ sent-size l s in
+      let t : take (size l) (wordsOf l s) ≡ wordsFrom 0 (sent l s) = take-at (wordsFrom 0 (sent l s)) end (size l) n in
+      let d = data-words 0 (sent l s) (sent-below l s (h .is-layout) ok) in
+      ap (λ (m : ℕ). settingsOf (map dataOf (take (size m) (wordsOf l s)))) layout-is
+      ∙ ap (λ (us : List ℕ). settingsOf (map dataOf us)) t
+      ∙ ap settingsOf d ∙ settings-sent ∙ values-read l s ok (h .held)
+
+  pub found : (ws : List ℕ) → EndsIn l s ws → completedBy ws ≡ Set s
+  unfolding completedBy
+  found ws e = rw (ends-latest l s ws e, carried-is (e .sound), layout-is, same-refl (wordsOf l s), e .sound)
+
+pub sound : (s : Settings) (ws : List ℕ) → completedBy ws ≡ Set s → EndsIn (layoutOf (latest ws)) s ws
+unfolding completedBy
+sound s ws e = go (sameWords (latest ws) (wordsOf l (carried (latest ws)))) refl (sendable l (carried (latest ws))) refl e
+  where
+    l : ℕ
+    l = layoutOf (latest ws)
+
     clash : {X : Type 0} → Nothing ≡ Set s → X
     clash q = let z : _≡_ {A = ℕ} 0 1 = cc in absurd (omega arith)
 
-    go : (a : Bool) → sameWords (lastFifteen ws) (wordsOf (carried ws)) ≡ a → (b : Bool) → acceptable (carried ws) ≡ b
-        → cond (a && b) (Set (carried ws)) Nothing ≡ Set s → EndsIn s ws
+    go : (a : Bool) → sameWords (latest ws) (wordsOf l (carried (latest ws))) ≡ a → (b : Bool) → sendable l (carried (latest ws)) ≡ b
+        → cond (a && b) (Set (carried (latest ws))) Nothing ≡ Set s → EndsIn l s ws
     go true p true q e =
-        let same : carried ws ≡ s = cc in
-        let l = same-equal (lastFifteen ws) (wordsOf (carried ws)) p in
-        record {
-          before = take (length ws - 15) ws;
-          words = sym (take-append-drop (length ws - 15) ws) ∙ ap (λ (us : List ℕ). take (length ws - 15) ws ++ us) (l ∙ ap wordsOf same);
-          sound = rw (sym same) q;
-        }
+        let same : carried (latest ws) ≡ s = cc in
+        let w : latest ws ≡ wordsOf l s = same-equal (latest ws) (wordsOf l (carried (latest ws))) p ∙ ap (wordsOf l) same in
+        record { before = split ws .before; words = split ws .whole ∙ ap (λ (us : List ℕ). split ws .before ++ us) w; sound = rw (sym same) q }
     go true p false q e = clash e
     go false p b q e = clash e
+
+pub completed-exactly : CompletedExactly
+completed-exactly s ws = (λ e. record { layout = layoutOf (latest ws); ends = sound s ws e }, λ e. found (e .layout) s ws (e .ends))
 
 -- what an outcome completes
 abbrev pub completedIn : Outcome → Active
@@ -109,9 +125,9 @@ takeover ws w = go (readOf (pendingAfter ws) w .outcome) refl
   where
     none : (o : Outcome) → readOf (pendingAfter ws) w .outcome ≡ o → ((s : Settings) → o ≡ Complete s → ⊥) → (a : Active) → completedBy (ws ++ w ∷ []) ≡ a → a ≡ Nothing
     none o e n Nothing q = refl
-    none o e n (Set s) q = absurd (n s (sym e ∙ completes s ws w (sound s (ws ++ w ∷ []) q)))
+    none o e n (Set s) q = absurd (n s (sym e ∙ completes (layoutOf (latest (ws ++ w ∷ []))) s ws w (sound s (ws ++ w ∷ []) q)))
 
     go : (o : Outcome) → readOf (pendingAfter ws) w .outcome ≡ o → completedBy (ws ++ w ∷ []) ≡ completedIn o
     go (Refused r) e = none (Refused r) e (λ s q. let z : _≡_ {A = ℕ} 0 1 = cc in omega arith) _ refl
     go Stored e = none Stored e (λ s q. let z : _≡_ {A = ℕ} 0 1 = cc in omega arith) _ refl
-    go (Complete s) e = found s (ws ++ w ∷ []) (completed s ws w e)
+    go (Complete s) e = found (layoutIn (pendingAfter ws)) s (ws ++ w ∷ []) (completed s ws w e)

@@ -10,14 +10,18 @@ use Rattle.settings.specs.declared.Verdict.the-variants as verdict
 use Rattle.settings.specs.Refusal.{verdictNumber}
 use Rattle.checks.proofs.Numbers.{passes}
 use Rattle.words.specs.Word.{kindOf, packed as wordBy}
-use Rattle.words.specs.Encode.{valuesOf, checksumOf, wordsFrom, wordsOf}
-use Rattle.words.proofs.Widths.{Below, values-below}
+use Rattle.words.specs.Encode.{checksumOf, wordsFrom, sent, wordsOf}
+use Rattle.words.proofs.Widths.{Below}
 use Rattle.reader.specs.Pending.{Pending, Reading, Outcome, Stored, Complete}
 use Rattle.reader.specs.Read.{emptyPending, readOf, outcomeNumber}
 use Rattle.reader.proofs.Accepted.{AcceptedBy, begins, keeps, closes, accepted-by}
 use Rattle.roundtrip.specs.ReadInto.{ReadInto, last, more}
 use Rattle.roundtrip.specs.Stream.{pendingFrom}
+use Rattle.layouts.proofs.Sizes.{size-below}
+use Rattle.checks.proofs.Sends.{sends}
+use Rattle.roundtrip.proofs.Values.{sent-size, sent-below}
 use Rattle.roundtrip.proofs.There.{there}
+use Rattle.roundtrip.proofs.Back.{layout-2-holds}
 use Rattle.roundtrip.proofs.Completed.{last-completes, snoc-inj}
 use Rattle.rules.specs.Axis.{Axis, Worded}
 use Rattle.ticks.specs.declared.Tick.{Tick}
@@ -26,7 +30,7 @@ use Rattle.rules.specs.Tick.{tickOf}
 use Rattle.rules.proofs.Refused.{left-empty, refused-word, pending-unseen}
 use Rattle.demands.specs.Events.{Event, word, tick}
 use Rattle.demands.specs.Replies.{leftBy, axisFrom, repliesFrom}
-use Rattle.demands.specs.Whole.{PendingUnseen, RefusedUnseen, wordsIn, AllAccepted, afterTakeover, RoundTrip}
+use Rattle.demands.specs.Whole.{PendingUnseen, RefusedUnseen, wordsIn, AllAccepted, afterTakeover, RoundTrip, RewrittenTrip}
 
 -- ---- no tick sees what is pending
 
@@ -39,7 +43,7 @@ pending-unseen-from a p (t ∷ ts) =
 pub refused-unseen : RefusedUnseen
 refused-unseen a w ts n = rw (refused-word a w n) (pending-unseen-from a emptyPending ts)
 
--- ---- the words of acceptable settings, with ticks between
+-- ---- the words of settings in a layout that holds them, with ticks between
 
 -- words that are stored, one after the other
 abbrev AllStored : Pending → List ℕ → Type 0
@@ -61,8 +65,8 @@ unfolding checksumOf
 stores p w z n = go (accepted-by p w z)
   where
     go : AcceptedBy p w → readOf p w .outcome ≡ Stored
-    go (begins i e) = ap (λ (a : Reading). a .outcome) e
-    go (keeps d k l i e) = ap (λ (a : Reading). a .outcome) e
+    go (begins i h e) = ap (λ (a : Reading). a .outcome) e
+    go (keeps k h z i e) = ap (λ (a : Reading). a .outcome) e
     go (closes d i l e) = absurd (n (omega arith))
 
 -- the front of words that are read into settings is stored
@@ -111,12 +115,14 @@ accepted-append a (word v ∷ es) w h e = (h .0, accepted-append (wordOf a v .ax
 accepted-append a (tick t ∷ es) w h e = accepted-append (tickOf a t .axis) es w h e
 
 pub round-trip : RoundTrip
-unfolding wordsOf wordOf valuesOf
-round-trip a s es w ok e idle =
-    let front = wordsFrom 0 (valuesOf s) in
-    let r : ReadInto (a .pending) (wordsOf s) s = there s ok (a .pending) in
-    let i = snoc-inj (wordsIn es) front w (wordBy 15 (checksumOf (valuesOf s))) e in
-    let n : NoEnd (wordsIn es) = subst NoEnd (sym (i .0)) (no-end 0 (valuesOf s) (omega arith) (values-below s (passes s ok .range))) in
+unfolding wordsOf wordOf
+round-trip a l s es w ok e idle =
+    let front = wordsFrom 0 (sent l s) in
+    let r : ReadInto (a .pending) (wordsOf l s) s = there l s ok (a .pending) in
+    let i = snoc-inj (wordsIn es) front w (wordBy 15 (checksumOf (sent l s))) e in
+    let h = sends l s ok in
+    let b = size-below l in
+    let n : NoEnd (wordsIn es) = subst NoEnd (sym (i .0)) (no-end 0 (sent l s) (omega (arith, sent-size l s)) (sent-below l s (h .is-layout) (passes s (h .good) .range))) in
     let f = fed a es (front-stored r (wordsIn es) w (sym e) n) in
     let b = axisFrom a es in
     let o : readOf (b .pending) w .outcome ≡ Complete s = subst (λ (p : Pending). readOf p w .outcome ≡ Complete s) (sym (f .0)) (last-completes r (wordsIn es) w (sym e)) in
@@ -129,3 +135,6 @@ round-trip a s es w ok e idle =
   where
     unstored : Complete s ≡ Stored → ⊥
     unstored q = let z : _≡_ {A = ℕ} 0 1 = cc in omega arith
+
+pub rewritten-trip : RewrittenTrip
+rewritten-trip a s es w ok e idle = round-trip a 2 s es w (layout-2-holds s (sends 1 s ok .good)) e idle

@@ -1,7 +1,7 @@
 -- Settings that are in force are acceptable, after every list of settings words and ticks; so the guards of gear, speeds and torque caps
 -- change nothing in any history, and torque, speed and position are those of 01's formulas with no guard in them.
 -- Assumes nothing.
-use Prim.Native.Nat.{ℕ}
+use Prim.Native.Nat.{ℕ, _+_, _*_, _^_, _<_}
 use mathlib.Core.Path.{_≡_}
 use mathlib.Core.Bool.{true}
 use mathlib.Core.List.{List}
@@ -10,7 +10,7 @@ use Rattle.counts.specs.Wrap.{signed}
 use Rattle.settings.specs.declared.Settings.{Settings}
 use Rattle.checks.specs.Check.{acceptable}
 use Rattle.words.specs.Word.{dataOf}
-use Rattle.words.specs.Decode.{at, positionAt}
+use Rattle.words.specs.Decode.{positionOf}
 use Rattle.commands.specs.Commands.{wholeDemand}
 use Rattle.torque.specs.Torque.{plainTorque}
 use Rattle.speed.specs.Speed.{plainSpeed}
@@ -40,6 +40,8 @@ PlainAnswers =
     (es : List Event) (t : Tick) (s : Settings) → axisOf es .active ≡ Set s
     → Plain s t (tickOf (axisOf es) t .axis .motion) (tickOf (axisOf es) t .answer)
 
--- "two's complement over 28 bits": what a word carries is below 2 ^ 28, so that a position is read from it with no guard
-abbrev pub PlainData : Type 0
-PlainData = (d : List ℕ) (kind w : ℕ) → at d kind ≡ dataOf w → positionAt d kind ≡ signed 28 (dataOf w)
+-- "two's complement over 28 bits", and in layout 2 "32-bit signed": what a word carries is below 2 ^ 28, and four bits are below 2 ^ 4, so that a
+-- position is read with no guard
+pub record PlainData : Type 0 where
+  pub layout1 : (w top : ℕ) → positionOf 1 (dataOf w) top ≡ signed 28 (dataOf w)
+  pub layout2 : (w top : ℕ) → top < 2 ^ 4 → positionOf 2 (dataOf w) top ≡ signed 32 (dataOf w + top * 2 ^ 28)

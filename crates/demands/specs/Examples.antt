@@ -1,10 +1,10 @@
 -- 01, "Rehearsed examples": each starred one as a list of settings words and ticks to the fresh axis, in one table; and a table of further
--- lists, and one of what the list itself says. The checker evaluates all three. What no answer shows of floats stands in
+-- lists, one of layout 2 (`LongRails.antt`), and one of what the list itself says. The checker evaluates all four. What no answer shows of floats stands in
 -- hybrid/specs/Examples.antt, the routes of every method in homing/proofs/Examples.antt.
 -- Assumes nothing.
 use Prim.Native.Nat.{ℕ}
 use mathlib.Core.Path.{_≡_, refl}
-use mathlib.Core.Bool.{Bool, true, false, not, _&&_}
+use mathlib.Core.Bool.{Bool, true, false, not}
 use mathlib.Core.List.{List, [], _∷_, _++_, map}
 use lib.Dec.{eqb}
 use lib.IntN.{ℤ, pos}
@@ -13,16 +13,18 @@ use lib.Ieee.{ofBits, sub, mul, div, ofInt}
 use Rattle.counts.specs.Bit.{bitOf}
 use Rattle.counts.specs.Wrap.{modulo, signed, wrapped}
 use Rattle.counts.specs.Divide.{floorDiv}
+use Rattle.counts.specs.Fits.{fits}
 use Rattle.counts.specs.Clamp.{clamped}
-use Rattle.counts.specs.Tests.{minus, same, all}
+use Rattle.counts.specs.Tests.{minus, all}
 use Rattle.ranges.specs.Range.{methodOk}
 use Rattle.gears.specs.Gear.{gearedOf, inReach}
-use Rattle.checks.specs.Check.{limitsVerdict, acceptable}
-use Rattle.settings.specs.Ranges.{inRange}
-use Rattle.words.specs.Word.{sameWords}
+use Rattle.checks.specs.Check.{limitsVerdict, verdictOf, acceptable}
+use Rattle.settings.specs.Ranges.{positionsFit, inRange}
+use Rattle.words.specs.Word.{sameWords, latest}
 use Rattle.words.specs.Encode.{valuesOf, total, checksumOf, wordsFrom, wordsOf}
-use Rattle.words.specs.Decode.{settingsOf}
+use Rattle.words.specs.Decode.{positionOf, settingsOf}
 use Rattle.kinds.specs.Fields.{fieldOk}
+use Rattle.writer.specs.Write.{writeVerdict}
 use Rattle.reader.specs.Read.{startRead, fieldRead, endVerdict, endRead, readOf}
 use Rattle.control.specs.Control.{controlCommandOf}
 use Rattle.drive.specs.Transitions.{nextState}
@@ -51,13 +53,8 @@ use Rattle.demands.specs.Known.{Since, never, known}
 use Rattle.demands.specs.Known.{start as begun}
 use Rattle.demands.specs.Replies.{Reply, replies}
 use Rattle.demands.specs.Sheet.{words-S, settings-S, S-with}
-use Rattle.demands.specs.Lists.{off, HOM, Z, POT, NOT, inputs, still-tick, moving-tick, alarmed, ask, ask-in, hybrid, start, at, halted, released, S, with, enabling, enabled, enabled-with, after, number, torque, position, speed, status, alarm}
-
-abbrev sameCounts : List ℤ → List ℤ → Bool
-sameCounts [] [] = true
-sameCounts [] (y ∷ ys) = false
-sameCounts (x ∷ xs) [] = false
-sameCounts (x ∷ xs) (y ∷ ys) = same x y && sameCounts xs ys
+use Rattle.demands.specs.LongRails.{words-S-2, longRails}
+use Rattle.demands.specs.Lists.{off, HOM, Z, POT, NOT, inputs, still-tick, moving-tick, alarmed, ask, ask-in, hybrid, start, at, halted, released, S, with, enabling, enabled, enabled-with, after, number, torque, position, speed, status, alarm, sameCounts}
 
 abbrev homed-at-0 : List Event
 homed-at-0 = enabled ++ start 10 HOM ∷ at 0 off ∷ []
@@ -120,7 +117,7 @@ unfoldable pub further : List Bool
 further =
     -- the settings that S carries; a tick before S: 8
     acceptable settings-S
-    ∷ sameWords (wordsOf settings-S) words-S
+    ∷ sameWords (wordsOf 1 settings-S) words-S
     ∷ sameWords (map number (replies (ask Rest ∷ S))) (8 ∷ replicate 15 0)
     -- enabled: bit 7 keeps the state, quick stop; at standstill option 2 leaves by itself, also with bit 7
     ∷ sameWords (map status (after enabled (moving-tick 0x008F Rest ∷ moving-tick 0x0002 Rest ∷ still-tick 0x0082 Rest ∷ []))) (0x0237 ∷ 0x0217 ∷ 0x0250 ∷ [])
@@ -206,6 +203,6 @@ readings =
     ∷ not (started (known (enabled ++ start 100 off ∷ still-tick 0x0000 Rest ∷ with 1 35) .since))
     ∷ []
 
-holds : (all table ≡ true) × (all further ≡ true) × (all readings ≡ true)
-unfolding table further readings words-S settings-S modulo signed wrapped floorDiv clamped methodOk inRange gearedOf inReach limitsVerdict acceptable valuesOf total checksumOf wordsFrom wordsOf settingsOf fieldOk startRead fieldRead endVerdict endRead readOf controlCommandOf nextState leastSet alarmNumberOf quotientOf sizeOf negative wholePart ofBits sub mul div ofInt eventCounts limitCounts rowOf mainRoute turnRoute skipRoute skips startRoute steps.runningOf steps.startOf signedOf capOf torqueOf countOf statuswordOf answerIn answeredIn wordOf newPhase tickOf completedBy withBit31
-holds = (refl, refl, refl)
+holds : (all table ≡ true) × (all further ≡ true) × (all longRails ≡ true) × (all readings ≡ true)
+unfolding table further longRails readings words-S words-S-2 settings-S modulo signed wrapped fits floorDiv clamped methodOk positionsFit inRange gearedOf inReach limitsVerdict verdictOf acceptable writeVerdict valuesOf total checksumOf wordsFrom wordsOf latest positionOf settingsOf fieldOk startRead fieldRead endVerdict endRead readOf controlCommandOf nextState leastSet alarmNumberOf quotientOf sizeOf negative wholePart ofBits sub mul div ofInt eventCounts limitCounts rowOf mainRoute turnRoute skipRoute skips startRoute steps.runningOf steps.startOf signedOf capOf torqueOf countOf statuswordOf answerIn answeredIn wordOf newPhase tickOf completedBy withBit31
+holds = (refl, refl, refl, refl)

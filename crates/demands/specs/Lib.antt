@@ -7,4 +7,5 @@ pub mod Acceptable
 pub mod Whole
 pub mod Sheet
 pub mod Lists
+pub mod LongRails
 pub mod Examples

@@ -1,11 +1,12 @@
 -- Lists of settings words and ticks as the examples write them, and what the replies to them say.
 -- Assumes nothing.
 use Prim.Native.Nat.{ℕ}
-use mathlib.Core.Bool.{Bool, true, false}
+use mathlib.Core.Bool.{Bool, true, false, _&&_}
 use mathlib.Core.List.{List, [], _∷_, _++_, map}
 use lib.IntN.{ℤ, pos}
 use lib.ListN.{length, drop}
 use lib.Ieee.{binary32, ofBits}
+use Rattle.counts.specs.Tests.{same}
 use Rattle.settings.specs.Refusal.{verdictNumber}
 use Rattle.commands.specs.declared.Command.{Command}
 use Rattle.commands.specs.declared.Command.the-variants.{Hybrid, Homing, Rest}
@@ -133,3 +134,9 @@ status (answered a) = a .status
 abbrev pub alarm : Reply → ℕ
 alarm (said v) = 0
 alarm (answered a) = a .alarm
+
+abbrev pub sameCounts : List ℤ → List ℤ → Bool
+sameCounts [] [] = true
+sameCounts [] (y ∷ ys) = false
+sameCounts (x ∷ xs) [] = false
+sameCounts (x ∷ xs) (y ∷ ys) = same x y && sameCounts xs ys

@@ -1,4 +1,4 @@
--- 01, "Rehearsed examples": sheet S, its fifteen words and the settings that they carry.
+-- 01, "Rehearsed examples": sheet S, its fifteen words, in layout 1, and the settings that they carry.
 -- Assumes nothing.
 use Prim.Native.Nat.{ℕ}
 use mathlib.Core.List.{List, [], _∷_, map}
@@ -38,5 +38,8 @@ abbrev changed : List (ℕ × ℕ) → List ℕ → List ℕ
 changed [] values = values
 changed (c ∷ cs) values = changed cs (set values (c .0) (c .1))
 
+abbrev pub data-with : List (ℕ × ℕ) → List ℕ
+data-with changes = changed changes (map dataOf (take 14 words-S))
+
 abbrev pub S-with : List (ℕ × ℕ) → List ℕ
-S-with changes = sealed (changed changes (map dataOf (take 14 words-S)))
+S-with changes = sealed (data-with changes)

@@ -1,14 +1,17 @@
--- Demands 1 and 2 over lists of events: no tick after a refused word tells that it came; the words of acceptable settings have them taken over,
--- whatever ticks fall between; and settings are in force only where their own fifteen words have come.
+-- Demands 1 and 2 over lists of events: no tick after a refused word tells that it came; the words of acceptable settings, in each layout that holds
+-- them, have them taken over, whatever ticks fall between; and settings are in force only where their own words have come.
 -- Assumes nothing.
 use Prim.Native.Nat.{ℕ}
 use mathlib.Core.Path.{_≡_}
 use mathlib.Core.Bool.{true, false}
 use mathlib.Core.List.{List, [], _∷_, _++_, map}
+use lib.ListN.{take}
 use Rattle.settings.specs.declared.Settings.{Settings}
+use Rattle.settings.specs.declared.Verdict.the-variants.{Accepted}
 use Rattle.settings.specs.Refusal.{verdictNumber}
-use Rattle.checks.specs.Check.{acceptable}
+use Rattle.checks.specs.Check.{sendable}
 use Rattle.words.specs.Encode.{wordsOf}
+use Rattle.writer.specs.Write.{needed, writeVerdict, written}
 use Rattle.reader.specs.Pending.{Pending}
 use Rattle.reader.specs.Read.{emptyPending}
 use Rattle.roundtrip.specs.Stream.{EndsIn}
@@ -56,23 +59,44 @@ pub record TakesOver (a : Axis) (s : Settings) (es : List Event) (w : ℕ) : Typ
   pub accepted : AllAccepted (repliesFrom a (es ++ word w ∷ []))
   pub left : axisFrom a (es ++ word w ∷ []) ≡ afterTakeover s (withPending (axisFrom a es) emptyPending)
 
--- "reading it with the drive not live yields that sheet": for any axis and any events whose words, ticks aside, are those of acceptable
--- settings, the last of them w, where the drive is not live when w comes
+-- "with the drive not live", when the next word comes
+abbrev pub NotLive : Axis → List Event → Type 0
+NotLive a es = liveOf (axisFrom a es .motion .state) ≡ false
+
+-- "reading it with the drive not live yields that sheet": for any axis and any events whose words, ticks aside, are those of settings in a
+-- layout that holds them, the last of them w, where the drive is not live when w comes
 abbrev pub RoundTrip : Type 0
 RoundTrip =
-    (a : Axis) (s : Settings) (es : List Event) (w : ℕ) → acceptable s ≡ true → wordsIn es ++ w ∷ [] ≡ wordsOf s
-    → liveOf (axisFrom a es .motion .state) ≡ false → TakesOver a s es w
+    (a : Axis) (layout : ℕ) (s : Settings) (es : List Event) (w : ℕ) → sendable layout s ≡ true → wordsIn es ++ w ∷ [] ≡ wordsOf layout s
+    → NotLive a es → TakesOver a s es w
 
--- a word of a list at which the fifteen words of acceptable settings end, ticks aside. That it took them over, with the drive not live, is
--- what `Demand3` says of it (`in-force`).
+-- "the writer produces it": what the writer fills a buffer with, fed to any axis as above, has the settings taken over that it was given
+abbrev pub WrittenTrip : Type 0
+WrittenTrip =
+    (a : Axis) (layout : ℕ) (s : Settings) (buffer : List ℕ) (es : List Event) (w : ℕ) → writeVerdict layout s buffer ≡ Accepted
+    → wordsIn es ++ w ∷ [] ≡ take (needed layout) (written layout s buffer) → NotLive a es → TakesOver a s es w
+
+-- 02, (iv): "writing it in layout 2 and reading it loses nothing": the words of a layout 1 sheet in layout 2 have the same settings taken over, in
+-- every field
+abbrev pub RewrittenTrip : Type 0
+RewrittenTrip =
+    (a : Axis) (s : Settings) (es : List Event) (w : ℕ) → sendable 1 s ≡ true → wordsIn es ++ w ∷ [] ≡ wordsOf 2 s
+    → NotLive a es → TakesOver a s es w
+
+-- a word of a list that took settings over: the drive was not live when it came, the words of those settings end at it, ticks aside, in a layout that
+-- holds them, and then they were in force
 pub record Came (s : Settings) (es : List Event) : Type 0 where
   pub before : List Event
   pub last : ℕ
   pub after : List Event
   pub cut : es ≡ before ++ word last ∷ after
-  pub words : EndsIn s (wordsIn before ++ last ∷ [])
+  pub idle : liveOf (axisOf before .motion .state) ≡ false
+  pub took : axisOf (before ++ word last ∷ []) .active ≡ Set s
+  pub layout : ℕ
+  pub words : EndsIn layout s (wordsIn before ++ last ∷ [])
 
--- "exactly one list of fifteen words", of the whole axis: after every list, refused words and ticks included, settings that are in force came by
--- their own fifteen words
+-- "exactly one list of fifteen words", now "one per sheet and each layout that holds it", of the whole axis: after every list, refused words and
+-- ticks included, settings that are in force came by their own words. No word ends the words of two sheets, or of one in two layouts (`OneEnd`,
+-- `roundtrip/specs/Unique.antt`).
 abbrev pub CameByTheirWords : Type 0
 CameByTheirWords = (es : List Event) (s : Settings) → axisOf es .active ≡ Set s → Came s es

@@ -44,12 +44,12 @@ pub extern "C" fn axis_tick(
     }
 }
 
-// The writer: settings as fifteen words to the front of the buffer. Returns 0, or the refusal's number.
+// The writer: settings as the words of a layout to the front of the buffer. Returns 0, or the refusal's number.
 #[no_mangle]
-pub extern "C" fn axis_write(fields: &[u32; 15], buffer: &mut [u32]) -> u32
-    ensures verdict { λ r. ⌜ r ≡ verdictNumber (writeVerdict (settingsOfFields (now (fields .entry))) (now (buffer .entry))) ⌝ }
-    ensures words { λ _. ⌜ now (buffer .exit) ≡ written (settingsOfFields (now (fields .entry))) (now (buffer .entry)) ⌝ }
+pub extern "C" fn axis_write(layout: u32, fields: &[u32; 15], buffer: &mut [u32]) -> u32
+    ensures verdict { λ r. ⌜ r ≡ verdictNumber (writeVerdict layout (settingsOfFields (now (fields .entry))) (now (buffer .entry))) ⌝ }
+    ensures words { λ _. ⌜ now (buffer .exit) ≡ written layout (settingsOfFields (now (fields .entry))) (now (buffer .entry)) ⌝ }
 {
     let s = records::settings_of_fields(fields);
-    settings::verdict_number(writer::write(s, buffer))
+    settings::verdict_number(writer::write(layout, s, buffer))
 }

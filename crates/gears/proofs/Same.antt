@@ -5,7 +5,8 @@ use mathlib.Core.Bool.{Bool, true, false, cond, _&&_}
 use lib.IntN.{ℤ, pos, _*ℤ_}
 use Rattle.settings.specs.declared.Settings.{Settings}
 use Rattle.gears.specs.Gear.{withinLimits, cappedNumerator, gearedOf}
-use Rattle.gears.specs.Narrow.{fits32, unitsOf, narrowed, narrowOf, countBy, NarrowAnswers, SameCount}
+use Rattle.counts.specs.Fits.{fits}
+use Rattle.gears.specs.Narrow.{unitsOf, narrowed, narrowOf, countBy, NarrowAnswers, SameCount}
 use Rattle.gears.specs.declared.narrow.Narrow.the-variants.{TooWide, Count}
 use Rattle.gears.proofs.Guards.{numerator-kept, denominator-kept}
 
@@ -19,4 +20,4 @@ chosen s target false = refl
 
 pub same-count : SameCount
 unfolding narrowOf narrowed gearedOf
-same-count s target = chosen s target (fits32 (unitsOf s target) && fits32 (unitsOf s target *ℤ pos (cappedNumerator s)))
+same-count s target = chosen s target (fits 32 (unitsOf s target) && fits 32 (unitsOf s target *ℤ pos (cappedNumerator s)))

@@ -10,7 +10,8 @@ use lib.Dec.{ltb, leb, leb·suc-suc}
 use lib.IntN.{ℤ, pos, negsuc, negℤ, subℕ, _-ℤ_, _*ℤ_}
 use mir.Syntax.{w32}
 use mir.Val.{SFits}
-use Rattle.gears.specs.Narrow.{biasedOf, fits32}
+use Rattle.counts.specs.Fits.{fits}
+use Rattle.gears.specs.Narrow.{biasedOf}
 
 -- a difference stands where its two parts move alike
 moved : (a b c d : ℕ) → a + d ≡ c + b → subℕ a b ≡ subℕ c d
@@ -43,8 +44,8 @@ module _ {a b : ℤ} {m n : ℕ} (h : SFits w32 a) (k : SFits w32 b) (p : m ≡ 
   pub apart-down : m < n → a -ℤ b ≡ negℤ (pos (n - m))
   apart-down l = rw (apart a b h k, ← p, ← q, lt-ltb m n l) (less m n l)
 
-pub fits-down : (n : ℕ) → fits32 (negℤ (pos n)) ≡ leb n (2 ^ 31)
-unfolding fits32
+pub fits-down : (n : ℕ) → fits 32 (negℤ (pos n)) ≡ leb n (2 ^ 31)
+unfolding fits
 fits-down zero = refl
 fits-down (suc n) = sym (leb·suc-suc n (2 ^ 31 - 1))
 

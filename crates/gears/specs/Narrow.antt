@@ -3,19 +3,15 @@
 -- Assumes nothing.
 use Prim.Native.Nat.{ℕ, suc, _+_, _-_, _*_, _^_, min}
 use mathlib.Core.Path.{_≡_}
-use mathlib.Core.Bool.{Bool, true, cond, _&&_}
-use lib.IntN.{ℤ, pos, negsuc, negℤ, _-ℤ_, _*ℤ_}
-use lib.Signed.{leZ, ltZ}
+use mathlib.Core.Bool.{true, cond, _&&_}
+use lib.IntN.{ℤ, pos, negsuc, _-ℤ_, _*ℤ_}
 use Rattle.counts.specs.Divide.{floorDiv}
+use Rattle.counts.specs.Fits.{fits}
 use Rattle.settings.specs.declared.Settings.{Settings}
 use Rattle.settings.specs.Ranges.{inRange}
 use Rattle.gears.specs.Gear.{withinLimits, cappedNumerator, divisorOf, gearedOf, plainGear}
 use Rattle.gears.specs.declared.narrow.Narrow.{Narrow}
 use Rattle.gears.specs.declared.narrow.Narrow.the-variants.{TooWide, Count}
-
--- "fit 32 bits signed": −2^31 does, 2^31 does not
-unfoldable pub fits32 : ℤ → Bool
-fits32 z = ltZ z (pos (2 ^ 31)) && leZ (negℤ (pos (2 ^ 31))) z
 
 -- "the clamped target less offset"
 abbrev pub unitsOf : Settings → ℤ → ℤ
@@ -24,7 +20,7 @@ unitsOf s target = withinLimits s target -ℤ s .offset
 -- of so many units, a numerator and a denominator: the floored quotient where the units and the product fit, else too wide. Where the
 -- numerator is not 0, units that do not fit make a product that does not
 unfoldable pub narrowed : ℤ → ℕ → ℕ → Narrow
-narrowed units n d = cond (fits32 units && fits32 (units *ℤ pos n)) (Count (floorDiv (units *ℤ pos n) d)) TooWide
+narrowed units n d = cond (fits 32 units && fits 32 (units *ℤ pos n)) (Count (floorDiv (units *ℤ pos n) d)) TooWide
 
 -- with the guards of the wide gear
 unfoldable pub narrowOf : Settings → ℤ → Narrow
@@ -36,7 +32,7 @@ abbrev pub NarrowAnswers : Type 0
 NarrowAnswers =
     (s : Settings) → inRange s ≡ true → (target : ℤ)
     → narrowOf s target
-    ≡ cond (fits32 (unitsOf s target) && fits32 (unitsOf s target *ℤ pos (s .numerator))) (Count (plainGear s (withinLimits s target))) TooWide
+    ≡ cond (fits 32 (unitsOf s target) && fits 32 (unitsOf s target *ℤ pos (s .numerator))) (Count (plainGear s (withinLimits s target))) TooWide
 
 -- "The geared count is the same for every target": the narrow gear's where it answers, else the wide gear's
 abbrev pub countBy : Settings → ℤ → Narrow → ℤ

@@ -12,7 +12,7 @@ pub fn field_ok(kind: u32, value: u32) -> bool
     ensures { λ r. ⌜ r ≡ fieldOk kind value ⌝ }
 {
     match kind {
-        0 => value == 1,
+        0 => layouts::is_layout(value),
         1 => ranges::method_ok(value),
         2 => ranges::speed_ok(value),
         3 => ranges::speed_ok(value),
@@ -26,6 +26,7 @@ pub fn field_ok(kind: u32, value: u32) -> bool
         11 => torque_limits_ok(value),
         12 => ranges::option_ok(value),
         13 => ranges::rated_ok(value),
+        14 => value < 0x1000,
         _ => false,
     }
 }

@@ -1,4 +1,4 @@
-// A sheet line's answer: the writer on a buffer that is lent to it.
+// What a line that writes settings is answered: the writer, on a buffer that is lent to it.
 use sheets::Writing;
 ghost use Prim.Native.Nat.{min};
 ghost use mathlib.Core.Path.{_≡_};
@@ -20,13 +20,13 @@ fn unwritten() -> [u32; 32]
     [0xDEADBEEF; 32]
 }
 
-// The writer's answer, on a buffer whose words hold DEADBEEF.
-pub fn write(writing: Writing, out: &mut [u8]) -> usize
-    ensures { λ r. ⌜ Printed (now (out .entry)) 0 (writtenText writing) (now (out .exit)) r ⌝ }
+// The writer's answer to a line of this name, a space behind it, on a buffer whose words hold DEADBEEF.
+pub fn write(name: &[u8], writing: Writing, out: &mut [u8]) -> usize
+    ensures { λ r. ⌜ Printed (now (out .entry)) 0 (writtenText (now (name .entry)) writing) (now (out .exit)) r ⌝ }
 {
     let settings = writing.settings;
     let n = words_lent(writing.length);
     let mut buffer = unwritten();
-    let verdict = writer::write(settings, &mut buffer[..n]);
-    printer::sheet(out, settings::verdict_number(verdict), &buffer[..n])
+    let verdict = writer::write(writing.layout, settings, &mut buffer[..n]);
+    printer::buffer(out, name, settings::verdict_number(verdict), &buffer[..n])
 }

@@ -12,7 +12,7 @@ use Rattle.cursors.specs.declared.Expected.the-variants as expected
 use Rattle.keywords.specs.Keywords.{meaningOf}
 use Rattle.spelling.specs.Spelling.{spelledOf}
 use Rattle.scanner.specs.Readings.{numberAt}
-use Rattle.sheets.specs.Sheets.{sheetRead}
+use Rattle.sheets.specs.Sheets.{sheetRead, layoutRead}
 use Rattle.tokens.specs.declared.Span.{Span}
 use Rattle.tokens.specs.Ascii.{ascii}
 use Rattle.tokens.specs.Words.{nextWord, bytesOf}
@@ -27,23 +27,25 @@ columnOf at = min at 255 + 1
 abbrev pub lostAt : Cursor → Line
 lostAt c = line.Unreadable (record { column = columnOf (c .at); expected = c .expected })
 
--- a line read to its end, or where it was lost
-abbrev pub unlessLost : Cursor → Line → Line
-unlessLost c l = cond (c .lost) (lostAt c) l
-
-abbrev pub freshLine : List ℕ → Cursor → Line
-freshLine text c = unlessLost (lineEnd text c) line.Fresh
+-- a line that is to end here, or where it was lost
+abbrev pub endedBy : List ℕ → Cursor → Line → Line
+endedBy text c l =
+    let end = lineEnd text c in
+    cond (end .lost) (lostAt end) l
 
 abbrev pub wordLine : List ℕ → Cursor → Line
 wordLine text c =
     let word = numberAt (spelledOf 16 8) expected.Digits text c in
-    unlessLost (lineEnd text (word .cursor)) (line.Word (word .value))
+    endedBy text (word .cursor) (line.Word (word .value))
 
 abbrev pub tickLine : List ℕ → Cursor → Line
-tickLine text c = unlessLost (tickRead text c .cursor) (line.Tick (tickRead text c .tick))
+tickLine text c = endedBy text (tickRead text c .cursor) (line.Tick (tickRead text c .tick))
 
 abbrev pub sheetLine : List ℕ → Cursor → Line
-sheetLine text c = unlessLost (sheetRead text c .cursor) (line.Sheet (sheetRead text c .writing))
+sheetLine text c = endedBy text (sheetRead text c .cursor) (line.Sheet (sheetRead text c .writing))
+
+abbrev pub layoutLine : List ℕ → Cursor → Line
+layoutLine text c = endedBy text (layoutRead text c .cursor) (line.Layout (layoutRead text c .writing))
 
 -- a line by its first word; `next` is the cursor past it
 abbrev pub openings : List ℕ → Cursor → List (List ℕ × Line)
@@ -51,7 +53,8 @@ openings text next =
     (ascii "word", wordLine text next)
     ∷ (ascii "tick", tickLine text next)
     ∷ (ascii "sheet", sheetLine text next)
-    ∷ (ascii "fresh", freshLine text next)
+    ∷ (ascii "layout", layoutLine text next)
+    ∷ (ascii "fresh", endedBy text next line.Fresh)
     ∷ []
 
 abbrev pub openedBy : List ℕ → Span → Line

@@ -7,7 +7,6 @@ use Rattle.spelling.specs.Spelling.{spelledOf}
 use Rattle.cursors.specs.declared.Cursor.{Cursor}
 use Rattle.cursors.specs.declared.Expected.the-variants as expected
 use Rattle.choices.specs.Choices.{atRead, standstillRead, setRead, switchesRead}
-use Rattle.cursors.specs.Cursor.{lineEnd}
 use Rattle.orders.specs.Orders.{commandRead}
 use Rattle.scanner.specs.Readings.{numberAt, wholeAt}
 use Rattle.lines.specs.declared.tick_line.TickRead.{TickRead}
@@ -32,5 +31,5 @@ tickRead text c =
             set = set .value;
             alarm = alarm .value;
           };
-      cursor = lineEnd text (alarm .cursor);
+      cursor = alarm .cursor;
     }

@@ -8,7 +8,7 @@ use ticks::Tick;
 ghost use mathlib.Core.Path.{_≡_};
 ghost use lib.ListN.{getD};
 ghost use Rattle.keywords.specs.Keywords.{meanings};
-ghost use Rattle.lines.specs.Lines.{columnOf, lostAt, freshLine, wordLine, tickLine, sheetLine, openings, contentOf, lineOf};
+ghost use Rattle.lines.specs.Lines.{columnOf, lostAt, endedBy, wordLine, tickLine, sheetLine, layoutLine, openings, contentOf, lineOf};
 
 // A line that cannot be read: the column, from 1, and what was expected there.
 pub struct Trouble {
@@ -22,6 +22,7 @@ pub enum Line {
     Word(u32),
     Tick(Tick),
     Sheet(Writing),
+    Layout(Writing),
     Unreadable(Trouble),
 }
 
@@ -42,15 +43,12 @@ fn lost(cursor: Cursor) -> Line
     })
 }
 
-fn fresh(text: &[u8], cursor: Cursor) -> Line
-    ensures { λ r. ⌜ r ≡ freshLine (now (text .entry)) cursor ⌝ }
+// A line read so far, which is to end here.
+fn ended(text: &[u8], cursor: Cursor, line: Line) -> Line
+    ensures { λ r. ⌜ r ≡ endedBy (now (text .entry)) cursor line ⌝ }
 {
     let cursor = cursor.end(text);
-    if cursor.lost {
-        lost(cursor)
-    } else {
-        Line::Fresh
-    }
+    if cursor.lost { lost(cursor) } else { line }
 }
 
 fn settings_word(text: &[u8], cursor: Cursor) -> Line
@@ -58,12 +56,7 @@ fn settings_word(text: &[u8], cursor: Cursor) -> Line
 {
     let word = scanner::hexadecimal8(text, cursor);
     let cursor = word.cursor;
-    let cursor = cursor.end(text);
-    if cursor.lost {
-        lost(cursor)
-    } else {
-        Line::Word(word.value)
-    }
+    ended(text, cursor, Line::Word(word.value))
 }
 
 fn one_tick(text: &[u8], cursor: Cursor) -> Line
@@ -72,11 +65,7 @@ fn one_tick(text: &[u8], cursor: Cursor) -> Line
     let read = tick_line::tick(text, cursor);
     let tick = read.tick;
     let cursor = read.cursor;
-    if cursor.lost {
-        lost(cursor)
-    } else {
-        Line::Tick(tick)
-    }
+    ended(text, cursor, Line::Tick(tick))
 }
 
 fn one_sheet(text: &[u8], cursor: Cursor) -> Line
@@ -85,11 +74,16 @@ fn one_sheet(text: &[u8], cursor: Cursor) -> Line
     let read = sheets::sheet(text, cursor);
     let writing = read.writing;
     let cursor = read.cursor;
-    if cursor.lost {
-        lost(cursor)
-    } else {
-        Line::Sheet(writing)
-    }
+    ended(text, cursor, Line::Sheet(writing))
+}
+
+fn one_layout(text: &[u8], cursor: Cursor) -> Line
+    ensures { λ r. ⌜ r ≡ layoutLine (now (text .entry)) cursor ⌝ }
+{
+    let read = sheets::layout(text, cursor);
+    let writing = read.writing;
+    let cursor = read.cursor;
+    ended(text, cursor, Line::Layout(writing))
 }
 
 // A line by the number of its first word; `next` stands past the word, `unread` at it.
@@ -100,7 +94,8 @@ fn opened(text: &[u8], number: usize, next: Cursor, unread: Cursor) -> Line
         0 => settings_word(text, next),
         1 => one_tick(text, next),
         2 => one_sheet(text, next),
-        3 => fresh(text, next),
+        3 => one_layout(text, next),
+        4 => ended(text, next, Line::Fresh),
         _ => lost(unread),
     }
 }
@@ -115,7 +110,7 @@ fn content(text: &[u8]) -> Line
     if start == text.len() {
         return Line::Blank;
     }
-    let number = keywords::which(&text[start..end], b"word\ntick\nsheet\nfresh\n");
+    let number = keywords::which(&text[start..end], b"word\ntick\nsheet\nlayout\nfresh\n");
     let cursor = Cursor::start();
     let next = cursor.accept(word);
     let unread = cursor.refuse(word, Expected::Keyword);

@@ -40,6 +40,6 @@ pub fn tick(text: &[u8], cursor: Cursor) -> TickRead
             set: limits,
             alarm: alarm.value,
         },
-        cursor: cursor.end(text),
+        cursor,
     }
 }

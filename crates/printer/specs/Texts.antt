@@ -19,11 +19,12 @@ tradeWord n =
     (cond (eqb n 5) (ascii "  stops crossed\n")
     (cond (eqb n 6) (ascii "  out of reach\n")
     (cond (eqb n 7) (ascii "  axis live\n")
-    (cond (eqb n 8) (ascii "  no sheet\n") (ascii "  short buffer\n")))))))))
+    (cond (eqb n 8) (ascii "  no sheet\n")
+    (cond (eqb n 9) (ascii "  short buffer\n") (ascii "  long value\n"))))))))))
 
 -- the row of a number in the code's list of trade words
 abbrev pub tradeRow : ℕ → ℕ
-tradeRow n = min n 9
+tradeRow n = min n 10
 
 abbrev pub freshText : List ℕ
 freshText = ascii "fresh\n"
@@ -53,6 +54,6 @@ unfoldable pub wordsText : List ℕ → List ℕ
 wordsText [] = []
 wordsText (w ∷ ws) = (32 ∷ []) ++ hexadecimal 8 w ++ wordsText ws
 
--- "`sheet N` and the buffer's words after the call"
-abbrev pub sheetText : ℕ → List ℕ → List ℕ
-sheetText n buffer = ascii "sheet " ++ decimal n ++ wordsText buffer ++ tradeWord n
+-- "`sheet N` and the buffer's words after the call", and so for `layout`; a name has its space
+abbrev pub bufferText : List ℕ → ℕ → List ℕ → List ℕ
+bufferText name n buffer = name ++ decimal n ++ wordsText buffer ++ tradeWord n

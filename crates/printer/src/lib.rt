@@ -3,22 +3,22 @@
 use answers::Answer;
 ghost use mathlib.Core.Path.{_≡_};
 ghost use Rattle.page.specs.Page.{Printed};
-ghost use Rattle.printer.specs.Texts.{tradeRow, tradeWord, freshText, wordText, motionText, tickText, wordsText, sheetText};
+ghost use Rattle.printer.specs.Texts.{tradeRow, tradeWord, freshText, wordText, motionText, tickText, wordsText, bufferText};
 
 fn trade_row(number: u32) -> usize
     ensures { λ r. ⌜ r ≡ tradeRow number ⌝ }
 {
-    if number < 9 { number as usize } else { 9 }
+    if number < 10 { number as usize } else { 10 }
 }
 
-// What a number other than 0 is called in the trade (01), after two spaces, and the line's end.
+// What a number other than 0 is called in the trade (01, 02), after two spaces, and the line's end.
 fn trade_word(out: &mut [u8], at: usize, number: u32) -> usize
     ensures { λ r. ⌜ Printed (now (out .entry)) at (tradeWord number) (now (out .exit)) r ⌝ }
 {
     phrases::nth(
         out,
         at,
-        b"\n  out of turn\n  strange layout\n  out of range\n  bad sum\n  stops crossed\n  out of reach\n  axis live\n  no sheet\n  short buffer\n",
+        b"\n  out of turn\n  strange layout\n  out of range\n  bad sum\n  stops crossed\n  out of reach\n  axis live\n  no sheet\n  short buffer\n  long value\n",
         trade_row(number),
     )
 }
@@ -69,11 +69,11 @@ fn buffer_words(out: &mut [u8], at: usize, buffer: &[u32]) -> usize
     end
 }
 
-// The number of the writer's verdict, and the buffer after the call.
-pub fn sheet(out: &mut [u8], number: u32, buffer: &[u32]) -> usize
-    ensures { λ r. ⌜ Printed (now (out .entry)) 0 (sheetText number (now (buffer .entry))) (now (out .exit)) r ⌝ }
+// The writer's answer to a line of this name, a space behind it: the number of its verdict, and the buffer after the call.
+pub fn buffer(out: &mut [u8], name: &[u8], number: u32, buffer: &[u32]) -> usize
+    ensures { λ r. ⌜ Printed (now (out .entry)) 0 (bufferText (now (name .entry)) number (now (buffer .entry))) (now (out .exit)) r ⌝ }
 {
-    let at = phrases::named_decimal(out, 0, b"sheet ", number as u64);
+    let at = phrases::named_decimal(out, 0, name, number as u64);
     let at = buffer_words(out, at, buffer);
     trade_word(out, at, number)
 }

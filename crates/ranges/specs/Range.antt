@@ -1,10 +1,8 @@
 -- 01, "The sheet": the range of each field, as a test.
 -- Assumes nothing.
 use Prim.Native.Nat.{ℕ, _-_, _^_}
-use mathlib.Core.Bool.{Bool, _&&_, _||_}
+use mathlib.Core.Bool.{Bool, _||_}
 use lib.Dec.{eqb, leb}
-use lib.IntN.{ℤ, pos, negℤ}
-use lib.Signed.{leZ, ltZ}
 use Rattle.counts.specs.Between.{between}
 
 -- "method 23 to 30, 33, 34 or 35"; 02, (i): "17 and 18, and 1 and 2", and "Kind 1 admits them"
@@ -18,10 +16,6 @@ speedOk speed = between 1 (2 ^ 28 - 1) speed
 -- "5 gear numerator and 6 denominator, 1 to 2^20"
 abbrev pub ratioOk : ℕ → Bool
 ratioOk ratio = between 1 (2 ^ 20) ratio
-
--- "offset and stops are two's complement over 28 bits"
-abbrev pub positionOk : ℤ → Bool
-positionOk z = leZ (negℤ (pos (2 ^ 27))) z && ltZ z (pos (2 ^ 27))
 
 -- "maximum torque, 0 to 3000", and each limit of the two sets
 abbrev pub torqueOk : ℕ → Bool

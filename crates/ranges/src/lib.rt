@@ -1,7 +1,7 @@
 // The range of each single field of the settings (01: the sheet, refusal 3).
 ghost use mathlib.Core.Path.{_≡_};
 ghost use Rattle.counts.specs.Between.{between};
-ghost use Rattle.ranges.specs.Range.{methodOk, speedOk, ratioOk, positionOk, torqueOk, optionOk, ratedOk};
+ghost use Rattle.ranges.specs.Range.{methodOk, speedOk, ratioOk, torqueOk, optionOk, ratedOk};
 
 fn within(low: u32, high: u32, x: u32) -> bool
     ensures { λ r. ⌜ r ≡ between low high x ⌝ }
@@ -28,12 +28,6 @@ pub fn ratio_ok(ratio: u32) -> bool
     ensures { λ r. ⌜ r ≡ ratioOk ratio ⌝ }
 {
     within(1, 0x100000, ratio)
-}
-
-pub fn position_ok(position: i32) -> bool
-    ensures { λ r. ⌜ r ≡ positionOk position ⌝ }
-{
-    (-0x8000000 <= position) & (position < 0x8000000)
 }
 
 pub fn torque_ok(torque: u32) -> bool

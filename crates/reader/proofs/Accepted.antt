@@ -1,31 +1,32 @@
 -- How a word is accepted: it begins afresh, it is the one due, or it closes the settings.
 -- Assumes nothing.
-use Prim.Native.Nat.{ℕ, _<_}
+use Prim.Native.Nat.{ℕ, _<_, _≤_}
 use mathlib.Core.Path.{_≡_, refl, sym, _∙_, subst}
 use mathlib.Core.Bool.{Bool, true, false, cond}
 use native.Mathlib.Omega.{arith}
 use borrow.Author.Tests.{eqb-true, eqb-false}
 use lib.Dec.{eqb}
 use Rattle.settings.specs.declared.Refusal.{Refusal}
-use Rattle.settings.specs.declared.Refusal.the-variants.{OutOfSequence, UnknownLayout, OutOfRange, ChecksumMismatch, LimitsCrossed, OutOfReach, DriveActive, NoSettings, BufferTooShort}
+use Rattle.settings.specs.declared.Refusal.the-variants.{OutOfSequence, UnknownLayout, OutOfRange, ChecksumMismatch, LimitsCrossed, OutOfReach, DriveActive, NoSettings, BufferTooShort, LongValue}
 use Rattle.settings.specs.declared.Verdict.{Verdict}
 use Rattle.settings.specs.declared.Verdict.the-variants.{Accepted, Refused}
 use Rattle.settings.specs.declared.Settings.{Settings}
 use Rattle.settings.specs.Refusal.{numberOf}
+use Rattle.layouts.specs.Layout.{isLayout, size}
 use Rattle.checks.specs.Check.{limitsVerdict}
 use Rattle.words.specs.Word.{kindOf, dataOf, packed}
 use Rattle.words.specs.Encode.{checksumOf}
 use Rattle.words.specs.Decode.{settingsOf}
 use Rattle.reader.specs.Pending.{Pending, Reading}
 use Rattle.kinds.specs.Fields.{fieldOk}
-use Rattle.reader.specs.Read.{dueKind, refused, stored, complete, started, kept, startRead, fieldRead, judged, endVerdict, endRead, readOf, outcomeNumber}
-use Rattle.reader.proofs.Steps.{read-start, read-out, read-end, read-field, due-below}
+use Rattle.reader.specs.Read.{layoutIn, dueKind, refused, stored, complete, started, kept, startRead, fieldRead, judged, endVerdict, endRead, readOf, outcomeNumber}
+use Rattle.reader.proofs.Steps.{read-start, read-out, read-end, read-field, due-field, due-end}
 
 pub data AcceptedBy (p : Pending) (w : ℕ) : Type 0 where
-  begins : w ≡ 1 → readOf p w ≡ stored started → AcceptedBy p w
-  keeps : kindOf w ≡ dueKind (p .count) → (kindOf w ≡ 0 → ⊥) → kindOf w < 14 → fieldOk (kindOf w) (dataOf w) ≡ true
+  begins : w ≡ dataOf w → isLayout (dataOf w) ≡ true → readOf p w ≡ stored (started (dataOf w)) → AcceptedBy p w
+  keeps : kindOf w ≡ p .count → p .count < size (layoutIn p) → (kindOf w ≡ 0 → ⊥) → fieldOk (kindOf w) (dataOf w) ≡ true
       → readOf p w ≡ stored (kept p (kindOf w) (dataOf w)) → AcceptedBy p w
-  closes : dueKind (p .count) ≡ 15 → w ≡ packed 15 (checksumOf (p .values)) → limitsVerdict (settingsOf (p .values)) ≡ Accepted
+  closes : size (layoutIn p) ≤ p .count → w ≡ packed 15 (checksumOf (p .values)) → limitsVerdict (settingsOf (p .values)) ≡ Accepted
       → readOf p w ≡ complete (settingsOf (p .values)) → AcceptedBy p w
 
 -- how a word is read: it is refused, or accepted
@@ -44,6 +45,7 @@ some-number OutOfReach e = omega arith
 some-number DriveActive e = omega arith
 some-number NoSettings e = omega arith
 some-number BufferTooShort e = omega arith
+some-number LongValue e = omega arith
 
 -- the number of a reading
 abbrev numbered : Reading → ℕ
@@ -58,38 +60,38 @@ module _ (p : Pending) (w : ℕ) where
 
   start : kindOf w ≡ 0 → ReadBy p w
   unfolding startRead fieldOk
-  start k = go (eqb (dataOf w) 1) refl (read-start p w k)
+  start k = go (isLayout (dataOf w)) refl (read-start p w k)
     where
-      go : (a : Bool) → eqb (dataOf w) 1 ≡ a → readOf p w ≡ cond a (stored started) (refused UnknownLayout) → ReadBy p w
-      go true h e = accepted (begins (omega (arith, eqb-true (dataOf w) 1 h)) e)
+      go : (a : Bool) → isLayout (dataOf w) ≡ a → readOf p w ≡ cond a (stored (started (dataOf w))) (refused UnknownLayout) → ReadBy p w
+      go true h e = accepted (begins (omega arith) h e)
       go false h e = refuses UnknownLayout e
 
-  field : kindOf w ≡ dueKind (p .count) → (kindOf w ≡ 0 → ⊥) → (kindOf w ≡ 15 → ⊥) → ReadBy p w
+  field : kindOf w ≡ dueKind p → (kindOf w ≡ 0 → ⊥) → (kindOf w ≡ 15 → ⊥) → ReadBy p w
   unfolding fieldRead
   field d n f = go (fieldOk (kindOf w) (dataOf w)) refl (read-field p w d n f)
     where
       go : (a : Bool) → fieldOk (kindOf w) (dataOf w) ≡ a → readOf p w ≡ cond a (stored (kept p (kindOf w) (dataOf w))) (refused OutOfRange) → ReadBy p w
-      go true h e = accepted (keeps d n (due-below (kindOf w) (p .count) d f) h e)
+      go true h e = let k = due-field p (kindOf w) d f in accepted (keeps (k .0) (k .1) n h e)
       go false h e = refuses OutOfRange e
 
-  end : kindOf w ≡ dueKind (p .count) → kindOf w ≡ 15 → ReadBy p w
+  end : kindOf w ≡ dueKind p → kindOf w ≡ 15 → ReadBy p w
   unfolding endRead endVerdict
   end d k = go (eqb (dataOf w) (checksumOf (p .values))) refl (limitsVerdict s) refl (read-end p w d k)
     where
       go : (a : Bool) → eqb (dataOf w) (checksumOf (p .values)) ≡ a → (v : Verdict) → limitsVerdict s ≡ v
           → readOf p w ≡ judged s (cond a v (Refused ChecksumMismatch)) → ReadBy p w
-      go true h Accepted l e = accepted (closes (sym d ∙ k) (omega (arith, eqb-true (dataOf w) (checksumOf (p .values)) h)) l e)
+      go true h Accepted l e = accepted (closes (due-end p (sym d ∙ k)) (omega (arith, eqb-true (dataOf w) (checksumOf (p .values)) h)) l e)
       go true h (Refused r) l e = refuses r e
       go false h v l e = refuses ChecksumMismatch e
 
   pub read-by : ReadBy p w
-  read-by = go (eqb (kindOf w) 0) refl (eqb (kindOf w) (dueKind (p .count))) refl (eqb (kindOf w) 15) refl
+  read-by = go (eqb (kindOf w) 0) refl (eqb (kindOf w) (dueKind p)) refl (eqb (kindOf w) 15) refl
     where
-      go : (a : Bool) → eqb (kindOf w) 0 ≡ a → (b : Bool) → eqb (kindOf w) (dueKind (p .count)) ≡ b → (c : Bool) → eqb (kindOf w) 15 ≡ c → ReadBy p w
+      go : (a : Bool) → eqb (kindOf w) 0 ≡ a → (b : Bool) → eqb (kindOf w) (dueKind p) ≡ b → (c : Bool) → eqb (kindOf w) 15 ≡ c → ReadBy p w
       go true h b i c j = start (eqb-true (kindOf w) 0 h)
-      go false h true i true j = end (eqb-true (kindOf w) (dueKind (p .count)) i) (eqb-true (kindOf w) 15 j)
-      go false h true i false j = field (eqb-true (kindOf w) (dueKind (p .count)) i) (eqb-false (kindOf w) 0 h) (eqb-false (kindOf w) 15 j)
-      go false h false i c j = refuses OutOfSequence (read-out p w (eqb-false (kindOf w) 0 h) (eqb-false (kindOf w) (dueKind (p .count)) i))
+      go false h true i true j = end (eqb-true (kindOf w) (dueKind p) i) (eqb-true (kindOf w) 15 j)
+      go false h true i false j = field (eqb-true (kindOf w) (dueKind p) i) (eqb-false (kindOf w) 0 h) (eqb-false (kindOf w) 15 j)
+      go false h false i c j = refuses OutOfSequence (read-out p w (eqb-false (kindOf w) 0 h) (eqb-false (kindOf w) (dueKind p) i))
 
 pub accepted-by : (p : Pending) (w : ℕ) → numbered (readOf p w) ≡ 0 → AcceptedBy p w
 accepted-by p w z = go (read-by p w)

@@ -11,6 +11,7 @@ use Rattle.settings.specs.declared.Verdict.{Verdict}
 use Rattle.settings.specs.declared.Verdict.the-variants.{Accepted, Refused}
 use Rattle.settings.specs.declared.Settings.{Settings}
 use Rattle.settings.specs.Refusal.{verdictNumber, firstOf}
+use Rattle.layouts.specs.Layout.{isLayout}
 use Rattle.checks.specs.Check.{limitsVerdict}
 use Rattle.checks.specs.Cases as checks
 use Rattle.checks.proofs.Numbers.{limits-number}
@@ -43,7 +44,7 @@ module _ (p : Pending) (w : ℕ) where
   unfolding readOf startRead fieldRead fieldOk
   read-number = go (outOfSequence p w) (isStart w) refl (isEnd w) refl
     where
-      start : (a : Bool) → outcomeNumber (cond a (stored started) (refused UnknownLayout) .outcome) ≡ cond (not a) 2 0
+      start : (a : Bool) → outcomeNumber (cond a (stored (started (dataOf w))) (refused UnknownLayout) .outcome) ≡ cond (not a) 2 0
       start true = refl
       start false = refl
 
@@ -54,14 +55,14 @@ module _ (p : Pending) (w : ℕ) where
       go : (o k : Bool) → isStart w ≡ k → (e : Bool) → isEnd w ≡ e
           → outcomeNumber (cond o (refused OutOfSequence) (cond k (startRead (dataOf w)) (cond e (endRead p (dataOf w)) (fieldRead p (kindOf w) (dataOf w)))) .outcome)
           ≡ cond o 1
-          (cond (k && not (eqb (dataOf w) 1)) 2
+          (cond (k && not (isLayout (dataOf w))) 2
           (cond (not k && not e && not (fieldOk (kindOf w) (dataOf w))) 3
           (cond (e && not (eqb (dataOf w) (checksumOf (p .values)))) 4
           (cond (e && checks.limitsCrossed s) 5
           (cond (e && checks.outOfReach s) 6 0)))))
       go true k h e i = refl
       go false true h true i = absurd (omega (arith, eqb-true (kindOf w) 0 h, eqb-true (kindOf w) 15 i))
-      go false true h false i = start (eqb (dataOf w) 1)
+      go false true h false i = start (isLayout (dataOf w))
       go false false h true i = end-number
       go false false h false i = field (fieldOk (kindOf w) (dataOf w))
 

@@ -1,4 +1,4 @@
--- The cases in which a word is refused, each as 01's table has it, and the order of their tests; 1 is in `Read.antt`.
+-- The cases in which a word is refused, each as 01's table and 02, (iv), have it, and the order of their tests; 1 is in `Read.antt`.
 -- Assumes nothing.
 use Prim.Native.Nat.{ℕ}
 use mathlib.Core.Bool.{Bool, not, _&&_}
@@ -6,6 +6,7 @@ use mathlib.Core.List.{List, [], _∷_}
 use mathlib.Core.Path.{_≡_}
 use lib.Dec.{eqb}
 use Rattle.settings.specs.Refusal.{Test, test, firstOf}
+use Rattle.layouts.specs.Layout.{isLayout}
 use Rattle.checks.specs.Cases as checks
 use Rattle.words.specs.Word.{kindOf, dataOf}
 use Rattle.words.specs.Encode.{checksumOf}
@@ -20,9 +21,9 @@ isStart w = eqb (kindOf w) 0
 abbrev pub isEnd : ℕ → Bool
 isEnd w = eqb (kindOf w) 15
 
--- 2: "start word's data is not 1"
+-- 2: "start word's data is not 1", now "A layout nobody defined"
 abbrev pub unknownLayout : ℕ → Bool
-unknownLayout w = isStart w && not (eqb (dataOf w) 1)
+unknownLayout w = isStart w && not (isLayout (dataOf w))
 
 -- 3: "data outside its field", of a word between start and end
 abbrev pub outOfRange : ℕ → Bool

@@ -5,7 +5,7 @@ use mathlib.Core.List.{List}
 use Rattle.settings.specs.declared.Settings.{Settings}
 use Rattle.settings.specs.declared.Refusal.{Refusal}
 
--- the words that have come since the last start word: how many, and the data of each in order, 0 where none has come yet
+-- the words that have come from the last start word on: how many, and the data of kinds 0 to 14, 0 where none has come yet
 pub record Pending : Type 0 where
   pub count : ℕ
   pub values : List ℕ

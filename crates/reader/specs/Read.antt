@@ -1,4 +1,4 @@
--- 01, "Refused words": what one settings word does to the pending settings (01: the unfinished sheet).
+-- 01, "Refused words", and 02, (iv): what one settings word does to the pending settings (01: the unfinished sheet).
 -- Assumes nothing.
 use Prim.Native.Nat.{ℕ, _+_}
 use mathlib.Core.Bool.{Bool, cond, not, _&&_}
@@ -12,25 +12,32 @@ use Rattle.settings.specs.declared.Verdict.{Verdict}
 use Rattle.settings.specs.declared.Verdict.the-variants.{Accepted}
 use Rattle.settings.specs.declared.Verdict.the-variants as verdict
 use Rattle.settings.specs.Refusal.{numberOf}
+use Rattle.layouts.specs.Layout.{size}
 use Rattle.checks.specs.Check.{limitsVerdict}
 use Rattle.reader.specs.Pending.{Pending, Outcome, Refused, Stored, Complete, Reading}
 use Rattle.words.specs.Word.{kindOf, dataOf}
 use Rattle.kinds.specs.Fields.{fieldOk}
-use Rattle.words.specs.Decode.{settingsOf}
+use Rattle.words.specs.Decode.{layoutOf, settingsOf}
 use Rattle.words.specs.Encode.{checksumOf}
 
 -- nothing pending
 abbrev pub emptyPending : Pending
-emptyPending = record { count = 0; values = replicate 14 0 }
+emptyPending = record { count = 0; values = replicate 15 0 }
 
 -- a start word has come
-abbrev pub started : Pending
-started = record { count = 1; values = 1 ∷ replicate 13 0 }
+abbrev pub started : ℕ → Pending
+started layout = record { count = 1; values = layout ∷ replicate 14 0 }
 
--- "Kinds come once each in rising order": the kind that is due after so many words is 0 to 13, then the end, 15 (also past 14, where
--- no history leads)
-abbrev pub dueKind : ℕ → ℕ
-dueKind count = cond (ltb count 14) count 15
+abbrev pub layoutIn : Pending → ℕ
+layoutIn p = layoutOf (p .values)
+
+-- "Kinds come once each in rising order": the kind that is due after so many words of a layout is the next one that the layout has, then
+-- the end, 15 (also past that, where no history leads)
+abbrev pub dueAfter : ℕ → ℕ → ℕ
+dueAfter layout count = cond (ltb count (size layout)) count 15
+
+abbrev pub dueKind : Pending → ℕ
+dueKind p = dueAfter (layoutIn p) (p .count)
 
 -- "number; unfinished sheet emptied"
 abbrev pub refused : Refusal → Reading
@@ -45,11 +52,11 @@ complete s = record { outcome = Complete s; pending = emptyPending }
 
 -- 1: "word's kind is neither the next one due nor 0"
 abbrev pub outOfSequence : Pending → ℕ → Bool
-outOfSequence p w = not (eqb (kindOf w) (dueKind (p .count))) && not (eqb (kindOf w) 0)
+outOfSequence p w = not (eqb (kindOf w) (dueKind p)) && not (eqb (kindOf w) 0)
 
--- "A start word always begins afresh, also halfway." 2: "start word's data is not 1"
+-- "A start word always begins afresh, also halfway." 2: "A layout nobody defined"
 unfoldable pub startRead : ℕ → Reading
-startRead x = cond (fieldOk 0 x) (stored started) (refused UnknownLayout)
+startRead x = cond (fieldOk 0 x) (stored (started x)) (refused UnknownLayout)
 
 -- one more word's data
 abbrev pub kept : Pending → ℕ → ℕ → Pending

@@ -3,13 +3,17 @@ use settings::Refusal;
 use settings::Settings;
 use settings::Verdict;
 ghost use mathlib.Core.Path.{_≡_};
-ghost use Rattle.reader.specs.Read.{dueKind, closeVerdict};
+ghost use Rattle.reader.specs.Read.{dueAfter, closeVerdict};
 
-// The kind of word that is due after so many.
-pub fn due_kind(count: u32) -> u32
-    ensures { λ r. ⌜ r ≡ dueKind count ⌝ }
+// The kind of word that is due after so many of a layout.
+pub fn due_kind(layout: u32, count: u32) -> u32
+    ensures { λ r. ⌜ r ≡ dueAfter layout count ⌝ }
 {
-    if count < 14 { count } else { 15 }
+    if count < layouts::size(layout) {
+        count
+    } else {
+        15
+    }
 }
 
 // What an end word meets that closes these settings, by their sum and its own: tests 4, 5 and 6.

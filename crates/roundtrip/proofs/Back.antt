@@ -1,151 +1,97 @@
--- Fifteen words that are read, all accepted, into settings are those settings' words, and the settings are acceptable. So each
--- acceptable settings have exactly one list of fifteen words.
--- The idea: fewer than fifteen words that complete settings hold no start word, since fourteen follow one; so of fifteen the first is it.
+-- Words that are read into settings, a start word among them, are from the latest one on those settings' words.
+-- The idea: a start word forgets what was pending, so that the words might as well have come first.
 -- Assumes nothing.
-use Prim.Native.Nat.{ℕ, _+_, _^_, _<_, min}
-use mathlib.Core.Path.{_≡_, refl, sym, ap, _∙_, subst, subst₂}
+use Prim.Native.Nat.{ℕ}
+use mathlib.Core.Path.{_≡_, refl, sym, ap, _∙_, subst}
 use mathlib.Core.Bool.{Bool, true, false, cond}
-use mathlib.Core.List.{List, [], _∷_, _++_}
+use mathlib.Core.List.{List, [], _∷_, _++_, nil≢cons}
 use native.Mathlib.Omega.{arith}
-use borrow.Author.Tests.{ltb-true, ltb-false}
-use lib.Dec.{ltb}
-use lib.ListN.{length, length-append}
+use borrow.Author.Tests.{eqb-true, ne-eqb}
+use lib.Dec.{eqb}
 use Rattle.settings.specs.declared.Settings.{Settings}
-use Rattle.settings.specs.declared.Verdict.the-variants.{Accepted}
-use Rattle.checks.specs.Check.{acceptable, limitsVerdict}
-use Rattle.checks.proofs.Numbers.{acceptable-of}
-use Rattle.words.specs.Word.{kindOf, dataOf, packed}
-use Rattle.words.specs.Encode.{checksumOf, wordsFrom, wordsOf}
-use Rattle.words.specs.Decode.{settingsOf}
-use Rattle.words.proofs.Words.{length-words}
-use Rattle.words.proofs.Widths.{Below}
-use Rattle.reader.specs.Pending.{Pending, Reading, Stored, Complete}
-use Rattle.reader.specs.Read.{emptyPending, dueKind, started, kept, readOf, outcomeNumber}
-use Rattle.reader.proofs.Accepted.{AcceptedBy, begins, keeps, closes, accepted-by}
-use Rattle.roundtrip.specs.Unique.{OneList}
+use Rattle.checks.proofs.Sends.{sends, sendable-of, positions-32}
+use Rattle.words.specs.Word.{kindOf, orElse, latest}
+use Rattle.words.specs.Encode.{checksumOf, wordsOf}
+use Rattle.words.specs.Decode.{layoutOf}
+use Rattle.reader.specs.Pending.{Pending, Reading, Complete}
+use Rattle.reader.specs.Read.{emptyPending, layoutIn, readOf}
+use Rattle.reader.proofs.Accepted.{ReadBy, refuses, accepted, begins, keeps, closes, read-by}
+use Rattle.reader.proofs.Steps.{read-start}
 use Rattle.roundtrip.specs.ReadInto.{ReadInto, last, more}
-use Rattle.roundtrip.proofs.Values.{InFields}
-use Rattle.roundtrip.proofs.Placed.{placed, placed-all}
-use Rattle.roundtrip.proofs.Thirteen.{values-of, range-of}
+use Rattle.roundtrip.specs.Stream.{pendingFrom, pendingAfter}
+use Rattle.roundtrip.specs.Unique.{OneList, Layout2Holds, Rewritten}
+use Rattle.roundtrip.proofs.There.{there}
+use Rattle.roundtrip.proofs.Once.{from-start, ends-latest}
+use Rattle.roundtrip.proofs.Completed.{completed}
 
--- what fewer than fifteen words are, of which kind k is due first
-record Rest (p : Pending) (k : ℕ) (ws : List ℕ) (s : Settings) : Type 0 where
-  xs : List ℕ
-  words : ws ≡ wordsFrom k xs ++ (packed 15 (checksumOf (placed (p .values) k xs)) ∷ [])
-  settings : s ≡ settingsOf (placed (p .values) k xs)
-  limits : limitsVerdict s ≡ Accepted
-  below : Below xs
-  fields : InFields k xs
-  count : k + length xs ≡ 14
-
-long : (p : Pending) (k : ℕ) (ws : List ℕ) (s : Settings) → Rest p k ws s → length ws + k ≡ 15
-long p k ws s r =
-    let n = ap length (r .words) ∙ length-append (wordsFrom k (r .xs)) (packed 15 (checksumOf (placed (p .values) k (r .xs))) ∷ []) in
-    let m = length-words k (r .xs) in
-    let c = r .count in
-    omega arith
-
--- the kind due tells how many words have come, up to fourteen
-pub due-end : (n : ℕ) → dueKind n ≡ 15 → min n 14 ≡ 14
-due-end n e = go (ltb n 14) refl e
+-- a start word forgets what was pending
+forget : (p q : Pending) (ws : List ℕ) → (latest ws ≡ [] → ⊥) → pendingFrom p ws ≡ pendingFrom q ws
+unfolding latest
+forget p q [] n = absurd (n refl)
+forget p q (w ∷ ws) n = go (forget (readOf p w .pending) (readOf q w .pending) ws) (latest ws) refl (eqb (kindOf w) 0) refl n
   where
-    go : (t : Bool) → ltb n 14 ≡ t → cond t n 15 ≡ 15 → min n 14 ≡ 14
-    go true q e = let h = ltb-true n 14 q in absurd (omega arith)
-    go false q e = let h = ltb-false n 14 q in omega arith
+    go : ((latest ws ≡ [] → ⊥) → pendingFrom (readOf p w .pending) ws ≡ pendingFrom (readOf q w .pending) ws) → (t : List ℕ) → latest ws ≡ t → (b : Bool) → eqb (kindOf w) 0 ≡ b
+        → (orElse t (cond b (w ∷ ws) []) ≡ [] → ⊥) → pendingFrom p (w ∷ ws) ≡ pendingFrom q (w ∷ ws)
+    go f [] h true k n =
+        let z = eqb-true (kindOf w) 0 k in
+        ap (λ (a : Reading). pendingFrom (a .pending) ws) (read-start p w z ∙ sym (read-start q w z))
+    go f [] h false k n = absurd (n refl)
+    go f (x ∷ xs) h b k n = f (λ e. nil≢cons (sym e ∙ h))
 
-pub due-field : (k n : ℕ) → k ≡ dueKind n → k < 14 → n ≡ k
-due-field k n e h = go (ltb n 14) refl e
+-- no start word, and none after one word more that is not a start word
+none-more : (us : List ℕ) (w : ℕ) → (kindOf w ≡ 0 → ⊥) → latest us ≡ [] → latest (us ++ w ∷ []) ≡ []
+unfolding latest
+none-more [] w n e = rw (ne-eqb (kindOf w) 0 n)
+none-more (u ∷ us) w n e = go (none-more us w n) (latest us) refl (eqb (kindOf u) 0) refl e
   where
-    go : (t : Bool) → ltb n 14 ≡ t → k ≡ cond t n 15 → n ≡ k
-    go true q e = sym e
-    go false q e = absurd (omega arith)
+    go : (latest us ≡ [] → latest (us ++ w ∷ []) ≡ []) → (t : List ℕ) → latest us ≡ t → (b : Bool) → eqb (kindOf u) 0 ≡ b → orElse t (cond b (u ∷ us) []) ≡ []
+        → latest (u ∷ (us ++ w ∷ [])) ≡ []
+    go f [] h true k e = absurd (nil≢cons (sym e))
+    go f [] h false k e = rw (f h, k)
+    go f (x ∷ xs) h b k e = absurd (nil≢cons (sym e))
 
--- the end word alone
-ending : (p : Pending) (w : ℕ) (s : Settings) → readOf p w .outcome ≡ Complete s → (k : ℕ) → k ≡ min (p .count) 14 → Rest p k (w ∷ []) s
-unfolding wordsFrom
-ending p w s e k q = go (accepted-by p w (ap outcomeNumber e))
+-- words that are read into settings: the last of them completes the settings
+record Ending (p : Pending) (ws : List ℕ) (s : Settings) : Type 0 where
+  front : List ℕ
+  end : ℕ
+  words : ws ≡ front ++ end ∷ []
+  completes : readOf (pendingFrom p front) end .outcome ≡ Complete s
+
+ending : {p : Pending} {ws : List ℕ} {s : Settings} → ReadInto p ws s → Ending p ws s
+ending (last {w = w} e) = record { front = []; end = w; words = refl; completes = e }
+ending (more {w = w} z r) =
+    let e = ending r in
+    record { front = w ∷ e .front; end = e .end; words = ap (λ (t : List ℕ). w ∷ t) (e .words); completes = e .completes }
+
+-- a word that completes settings is an end word
+no-start : (p : Pending) (w : ℕ) (s : Settings) → readOf p w .outcome ≡ Complete s → kindOf w ≡ 0 → ⊥
+unfolding checksumOf
+no-start p w s o k = go (read-by p w)
   where
-    clash : {X : Type 0} {r : Reading} → readOf p w ≡ r → r .outcome ≡ Stored → X
-    clash {r = r} f g = let h : Complete s ≡ Stored = sym e ∙ ap (λ (a : Reading). a .outcome) f ∙ g in let z : _≡_ {A = ℕ} 0 1 = cc in absurd (omega arith)
+    clash : (a : Reading) → readOf p w ≡ a → (a .outcome ≡ Complete s → ⊥) → ⊥
+    clash a e n = n (sym (ap (λ (b : Reading). b .outcome) e) ∙ o)
 
-    go : AcceptedBy p w → Rest p k (w ∷ []) s
-    go (begins i f) = clash f refl
-    go (keeps d n l i f) = clash f refl
-    go (closes d i l f) =
-        let h : Complete s ≡ Complete (settingsOf (p .values)) = sym e ∙ ap (λ (a : Reading). a .outcome) f in
-        let same : s ≡ settingsOf (p .values) = cc in
-        let c = due-end (p .count) d in
-        record { xs = []; words = ap (λ (x : ℕ). x ∷ []) i; settings = same; limits = rw same l; below = tt; fields = tt; count = omega arith }
-
--- one more word in front
-build : (p : Pending) (k x : ℕ) (ws : List ℕ) (s : Settings) → x < 2 ^ 28 → InFields k (x ∷ []) → Rest (kept p k x) (k + 1) ws s → Rest p k (packed k x ∷ ws) s
-unfolding wordsFrom
-build p k x ws s h i r =
-    let c = r .count in
-    record {
-      xs = x ∷ r .xs;
-      words = ap (λ (t : List ℕ). packed k x ∷ t) (r .words);
-      settings = r .settings;
-      limits = r .limits;
-      below = (h, r .below);
-      fields = (i .0, r .fields);
-      count = omega arith;
-    }
-
--- what is left after a word, said of the pending settings that it leaves
-module _ (p q : Pending) (w : ℕ) (ws : List ℕ) (s : Settings) (e : readOf p w .pending ≡ q) where
-  after : ((j : ℕ) → j ≡ min (readOf p w .pending .count) 14 → Rest (readOf p w .pending) j ws s) → (j : ℕ) → j ≡ min (q .count) 14 → Rest q j ws s
-  after r j m = subst (λ (y : Pending). Rest y j ws s) e (r j (m ∙ ap (λ (y : Pending). min (y .count) 14) (sym e)))
-
-abbrev left : Reading → Pending
-left a = a .pending
-
-rest : {p : Pending} {ws : List ℕ} {s : Settings} → ReadInto p ws s → length ws < 15 → (k : ℕ) → k ≡ min (p .count) 14 → Rest p k ws s
-rest (last {p} {w} {s} e) h k q = ending p w s e k q
-rest (more {p} {w} {ws} {s} z a) h k q = go (rest a (omega arith)) (accepted-by p w z)
-  where
-    go : ((j : ℕ) → j ≡ min (readOf p w .pending .count) 14 → Rest (readOf p w .pending) j ws s) → AcceptedBy p w → Rest p k (w ∷ ws) s
-    go r (begins i f) =
-        let n = long started 1 ws s (after p started w ws s (ap left f) r 1 refl) in
-        absurd (omega arith)
-    go r (closes d i l f) =
-        let n = long emptyPending 0 ws s (after p emptyPending w ws s (ap left f) r 0 refl) in
-        absurd (omega arith)
-    go r (keeps d n l i f) =
-        let kind = kindOf w in
-        let x = dataOf w in
-        let c = due-field kind (p .count) d l in
-        let t = after p (kept p kind x) w ws s (ap left f) r (kind + 1) (omega arith) in
-        let kk : kind ≡ k = omega arith in
-        let ww : packed kind x ≡ w = omega arith in
-        subst₂ (λ (j v : ℕ). Rest p j (v ∷ ws) s) kk ww (build p kind x ws s (omega arith) (i, tt) t)
-
--- a start word and the fourteen after it
-whole : (w : ℕ) (ws : List ℕ) (s : Settings) → w ≡ 1 → Rest started 1 ws s → (w ∷ ws ≡ wordsOf s) × (acceptable s ≡ true)
-unfolding wordsOf wordsFrom
-whole w ws s i t =
-    let c = t .count in
-    let m : length (t .xs) ≡ 13 = omega arith in
-    let all = placed-all (t .xs) m in
-    let same : s ≡ settingsOf (1 ∷ t .xs) = t .settings ∙ ap settingsOf all in (
-      rw (i, t .words, all, same, values-of (t .xs) m (t .below)),
-      acceptable-of s (rw same (range-of (t .xs) m (t .fields))) (t .limits),
-    )
-
--- (b) fifteen words
-pub back : {p : Pending} {ws : List ℕ} {s : Settings} → ReadInto p ws s → length ws ≡ 15 → (ws ≡ wordsOf s) × (acceptable s ≡ true)
-back (last e) n = absurd (omega arith)
-back (more {p} {w} {ws} {s} z a) n = go (rest a (omega arith)) (accepted-by p w z)
-  where
-    go : ((j : ℕ) → j ≡ min (readOf p w .pending .count) 14 → Rest (readOf p w .pending) j ws s) → AcceptedBy p w → (w ∷ ws ≡ wordsOf s) × (acceptable s ≡ true)
-    go r (begins i f) = whole w ws s i (after p started w ws s (ap left f) r 1 refl)
-    go r (closes d i l f) =
-        let m = long emptyPending 0 ws s (after p emptyPending w ws s (ap left f) r 0 refl) in
-        absurd (omega arith)
-    go r (keeps d o l i f) =
-        let c = due-field (kindOf w) (p .count) d l in
-        let m = long (kept p (kindOf w) (dataOf w)) (kindOf w + 1) ws s (after p (kept p (kindOf w) (dataOf w)) w ws s (ap left f) r (kindOf w + 1) (omega arith)) in
-        absurd (o (omega arith))
+    go : ReadBy p w → ⊥
+    go (refuses x e) = clash _ e (λ q. let z : _≡_ {A = ℕ} 0 1 = cc in omega arith)
+    go (accepted (begins i h e)) = clash _ e (λ q. let z : _≡_ {A = ℕ} 0 1 = cc in omega arith)
+    go (accepted (keeps d h z f e)) = clash _ e (λ q. let z : _≡_ {A = ℕ} 0 1 = cc in omega arith)
+    go (accepted (closes h i l e)) = omega arith
 
 pub one-list : OneList
-one-list p ws s r n = back r n
+one-list p ws s r n =
+    let e = ending r in
+    let us = e .front in
+    let w = e .end in
+    let some : latest us ≡ [] → ⊥ = λ z. n (ap latest (e .words) ∙ none-more us w (no-start (pendingFrom p us) w s (e .completes)) z) in
+    let c = completed s us w (subst (λ (q : Pending). readOf q w .outcome ≡ Complete s) (forget p emptyPending us some) (e .completes)) in
+    let l = layoutIn (pendingAfter us) in
+    let words : latest ws ≡ wordsOf l s = ap latest (e .words) ∙ ends-latest l s (us ++ w ∷ []) c in
+    let tells : layoutOf (latest ws) ≡ l = ap layoutOf (words ∙ from-start l s) ∙ omega arith in
+    rw tells (words, c .sound)
+
+-- settings in range fit 32 bits
+pub layout-2-holds : Layout2Holds
+layout-2-holds s e = sendable-of 2 s (record { is-layout = refl; held = positions-32 s e; good = e })
+
+pub rewritten : Rewritten
+rewritten s e p = (there 1 s e p, there 2 s (layout-2-holds s (sends 1 s e .good)) p)

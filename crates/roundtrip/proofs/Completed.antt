@@ -1,33 +1,38 @@
--- A word completes settings exactly where the words up to it end in the fifteen words of those settings, and they are acceptable.
--- One way: fifteen words read back from whatever was pending. The other: what is pending is always the run of words that came last, from a
+-- A word completes settings exactly where the words up to it end in the words of those settings, in a layout that holds them.
+-- One way: these words read back from whatever was pending. The other: what is pending is always the run of words that came last, from a
 -- start word on, each in its field.
 -- Assumes nothing.
-use Prim.Native.Nat.{ℕ, suc, _+_, _-_, _^_, _<_, _≤_}
+use Prim.Native.Nat.{ℕ, zero, suc, _+_, _-_, _^_, _<_, _≤_}
 use mathlib.Core.Path.{_≡_, refl, sym, ap, _∙_, subst}
-use mathlib.Core.Bool.{true}
+use mathlib.Core.Bool.{Bool, true, false, cond}
 use mathlib.Core.List.{List, [], _∷_, _++_, append-assoc, append-nil, nil≢cons, head-eq-of-cons-eq, tail-eq-of-cons-eq}
 use native.Mathlib.Omega.{arith}
-use borrow.Author.Tests.{eqb-true}
-use lib.ListN.{length, set, replicate, length-append}
-use lib.Seq.{set-at, append-snoc}
+use borrow.Author.Tests.{ltb-true}
+use lib.Dec.{eqb}
+use lib.ListN.{length, take, replicate, length-append, length-replicate}
+use lib.Seq.{append-snoc, take-at}
 use Rattle.settings.specs.declared.Settings.{Settings}
 use Rattle.settings.specs.declared.Verdict.the-variants.{Accepted}
-use Rattle.checks.specs.Check.{acceptable, limitsVerdict}
+use Rattle.layouts.specs.Layout.{isLayout, size, layoutHolds}
+use Rattle.checks.specs.Check.{limitsVerdict, sendable}
 use Rattle.checks.proofs.Numbers.{acceptable-of}
 use Rattle.words.specs.Word.{kindOf, dataOf, packed}
-use Rattle.words.specs.Encode.{valuesOf, checksumOf, wordsFrom, wordsOf}
-use Rattle.words.specs.Decode.{settingsOf}
+use Rattle.words.specs.Encode.{valuesOf, checksumOf, wordsFrom, sent, wordsOf}
+use Rattle.words.specs.Decode.{at, layoutOf, settingsOf}
+use Rattle.words.proofs.Spelled.{spell, spelled}
 use Rattle.words.proofs.Widths.{Below}
 use Rattle.reader.specs.Pending.{Pending, Reading, Outcome, Refused, Stored, Complete}
 use Rattle.kinds.specs.Fields.{fieldOk}
-use Rattle.reader.specs.Read.{emptyPending, dueKind, refused, stored, complete, started, kept, readOf}
+use Rattle.reader.specs.Read.{emptyPending, layoutIn, refused, stored, complete, started, kept, readOf}
 use Rattle.reader.proofs.Accepted.{ReadBy, refuses, accepted, begins, keeps, closes, read-by}
+use Rattle.layouts.proofs.Sizes.{size-below}
 use Rattle.roundtrip.specs.ReadInto.{ReadInto, last, more}
 use Rattle.roundtrip.specs.Stream.{pendingFrom, pendingAfter, EndsIn}
-use Rattle.roundtrip.proofs.Values.{InFields}
+use Rattle.checks.proofs.Sends.{sendable-of}
+use Rattle.roundtrip.proofs.Values.{InFields, zeros, checksum-padded}
+use Rattle.roundtrip.proofs.Fifteen.{topsEnd, Sheet, carries}
+use Rattle.roundtrip.proofs.Run.{pendingOf, layout-of-run, kept-is}
 use Rattle.roundtrip.proofs.There.{there}
-use Rattle.roundtrip.proofs.Back.{due-field, due-end}
-use Rattle.roundtrip.proofs.Thirteen.{values-of, range-of}
 
 -- ---- from words to settings
 
@@ -62,21 +67,17 @@ snoc-inj (x ∷ us) (y ∷ vs) u v q =
     let h : x ≡ y = head-eq-of-cons-eq q in
     (rw (h, i .0), i .1)
 
-pub completes : (s : Settings) (ws : List ℕ) (w : ℕ) → EndsIn s (ws ++ w ∷ []) → readOf (pendingAfter ws) w .outcome ≡ Complete s
+pub completes : (l : ℕ) (s : Settings) (ws : List ℕ) (w : ℕ) → EndsIn l s (ws ++ w ∷ []) → readOf (pendingAfter ws) w .outcome ≡ Complete s
 unfolding wordsOf
-completes s ws w e =
-    let front = wordsFrom 0 (valuesOf s) in
-    let end = packed 15 (checksumOf (valuesOf s)) in
+completes l s ws w e =
+    let front = wordsFrom 0 (sent l s) in
+    let end = packed 15 (checksumOf (sent l s)) in
     let q : ws ++ w ∷ [] ≡ (e .before ++ front) ++ end ∷ [] = e .words ∙ sym (append-assoc (e .before) front (end ∷ [])) in
     let i = snoc-inj ws (e .before ++ front) w end q in
     rw (i .0, i .1, from-append emptyPending (e .before) front)
-    (last-completes (there s (e .sound) (pendingAfter (e .before))) front end refl)
+    (last-completes (there l s (e .sound) (pendingAfter (e .before))) front end refl)
 
 -- ---- from settings to words
-
--- values that have come, and nothing for those to come
-abbrev pendingOf : List ℕ → Pending
-pendingOf xs = record { count = length xs; values = xs ++ replicate (14 - length xs) 0 }
 
 -- what is pending after some words: the values of the run of words that they end in
 record Run (ws : List ℕ) : Type 0 where
@@ -85,7 +86,7 @@ record Run (ws : List ℕ) : Type 0 where
   words : ws ≡ before ++ wordsFrom 0 xs
   fits : Below xs
   fields : InFields 0 xs
-  short : length xs ≤ 14
+  short : length xs ≤ size (layoutOf xs)
   pending : pendingAfter ws ≡ pendingOf xs
 
 -- no run
@@ -100,9 +101,9 @@ words-append k (y ∷ xs) x =
     let e : k + 1 + length xs ≡ k + suc (length xs) = omega arith in
     ap (λ (t : List ℕ). packed k y ∷ t) (words-append (k + 1) xs x ∙ ap (λ (j : ℕ). wordsFrom (k + 1) xs ++ packed j x ∷ []) e)
 
-below-append : (xs : List ℕ) (x : ℕ) → Below xs → x < 2 ^ 28 → Below (xs ++ x ∷ [])
-below-append [] x b h = (h, tt)
-below-append (y ∷ xs) x b h = (b .0, below-append xs x (b .1) h)
+below-append : (xs ys : List ℕ) → Below xs → Below ys → Below (xs ++ ys)
+below-append [] ys b c = c
+below-append (y ∷ xs) ys b c = (b .0, below-append xs ys (b .1) c)
 
 fields-append : (k : ℕ) (xs : List ℕ) (x : ℕ) → InFields k xs → fieldOk (k + length xs) x ≡ true → InFields k (xs ++ x ∷ [])
 fields-append k [] x i f = (subst (λ (j : ℕ). fieldOk j x ≡ true) (omega arith) f, tt)
@@ -110,16 +111,17 @@ fields-append k (y ∷ xs) x i f =
     let e : k + suc (length xs) ≡ k + 1 + length xs = omega arith in
     (i .0, fields-append (k + 1) xs x (i .1) (subst (λ (j : ℕ). fieldOk j x ≡ true) e f))
 
-kept-is : (xs : List ℕ) (x : ℕ) → length xs < 14 → kept (pendingOf xs) (length xs) x ≡ pendingOf (xs ++ x ∷ [])
-kept-is xs x h =
-    let n = length xs in
-    let m = 13 - n in
-    let left : 14 - n ≡ suc m = omega arith in
-    let more : length (xs ++ x ∷ []) ≡ n + 1 = length-append xs (x ∷ []) in
-    let rest : 14 - (n + 1) ≡ m = omega arith in
-    let stored : set (xs ++ replicate (14 - n) 0) n x ≡ (xs ++ x ∷ []) ++ replicate m 0 =
-    rw left (set-at xs 0 (replicate m 0) x n refl ∙ sym (append-snoc xs x (replicate m 0))) in
-    rw (more, rest, stored)
+-- the first stays
+first-same : (xs : List ℕ) (x : ℕ) → (length xs ≡ 0 → ⊥) → layoutOf (xs ++ x ∷ []) ≡ layoutOf xs
+first-same [] x h = absurd (h refl)
+first-same (y ∷ xs) x h = refl
+
+size-some : (l : ℕ) → 0 < size l
+size-some l = go (eqb l 1)
+  where
+    go : (b : Bool) → 0 < cond b 14 15
+    go true = omega arith
+    go false = omega arith
 
 -- one word more
 module _ (ws : List ℕ) (w : ℕ) (r : Run ws) where
@@ -136,41 +138,40 @@ module _ (ws : List ℕ) (w : ℕ) (r : Run ws) where
   unfolding wordsFrom fieldOk
   run-more = go (read-by p w)
     where
-      keep : (xs : List ℕ) → p ≡ pendingOf xs → kindOf w ≡ length xs → readOf p w ≡ stored (kept p (kindOf w) (dataOf w)) → length xs < 14
-          → pendingAfter (ws ++ w ∷ []) ≡ pendingOf (xs ++ dataOf w ∷ [])
-      keep xs e k f h = left-by (stored (kept p (kindOf w) (dataOf w))) f ∙ rw (e, k) (kept-is xs (dataOf w) h)
-
       go : ReadBy p w → Run (ws ++ w ∷ [])
       go (refuses x e) = none (ws ++ w ∷ []) (left-by (refused x) e)
-      go (accepted (closes d i l e)) = none (ws ++ w ∷ []) (left-by (complete (settingsOf (p .values))) e)
-      go (accepted (begins i e)) =
+      go (accepted (closes h i l e)) = none (ws ++ w ∷ []) (left-by (complete (settingsOf (p .values))) e)
+      go (accepted (begins i h e)) =
           record {
-            xs = 1 ∷ [];
+            xs = dataOf w ∷ [];
             before = ws;
-            words = ap (λ (v : ℕ). ws ++ v ∷ []) i;
+            words = ap (λ (v : ℕ). ws ++ v ∷ []) (omega arith);
             fits = (omega arith, tt);
-            fields = (refl, tt);
-            short = omega arith;
-            pending = left-by (stored started) e;
+            fields = (h, tt);
+            short = size-some (dataOf w);
+            pending = left-by (stored (started (dataOf w))) e;
           }
-      go (accepted (keeps d z l i e)) =
+      go (accepted (keeps k h z f e)) =
           let xs = r .xs in
           let x = dataOf w in
+          let l : layoutIn p ≡ layoutOf xs = ap layoutIn (r .pending) ∙ layout-of-run xs in
           let c : p .count ≡ length xs = ap (λ (q : Pending). q .count) (r .pending) in
-          let k = due-field (kindOf w) (p .count) d l in
-          let n : kindOf w ≡ length xs = omega arith in
+          let n : kindOf w ≡ length xs = k ∙ c in
           let n0 : kindOf w ≡ 0 + length xs = omega arith in
           let v : w ≡ packed (0 + length xs) x = omega arith in
+          let b = size-below (layoutOf xs) in
+          let h2 : length xs < size (layoutOf xs) = rw (c, l) at h in
+          let s = first-same xs x (λ e. z (n ∙ e)) in
           record {
             xs = xs ++ x ∷ [];
             before = r .before;
             words =
                 ap (λ (us : List ℕ). us ++ w ∷ []) (r .words) ∙ append-assoc (r .before) (wordsFrom 0 xs) (w ∷ [])
                 ∙ ap (λ (us : List ℕ). r .before ++ us) (ap (λ (u : ℕ). wordsFrom 0 xs ++ u ∷ []) v ∙ sym (words-append 0 xs x));
-            fits = below-append xs x (r .fits) (omega arith);
-            fields = fields-append 0 xs x (r .fields) (subst (λ (j : ℕ). fieldOk j x ≡ true) n0 i);
-            short = omega (arith, length-append xs (x ∷ []));
-            pending = keep xs (r .pending) n e (omega arith);
+            fits = below-append xs (x ∷ []) (r .fits) (omega arith, tt);
+            fields = fields-append 0 xs x (r .fields) (subst (λ (j : ℕ). fieldOk j x ≡ true) n0 f);
+            short = rw s (omega (arith, length-append xs (x ∷ [])));
+            pending = left-by (stored (kept p (kindOf w) x)) e ∙ rw (r .pending, n) (kept-is xs x (omega arith));
           }
 
 run-from : (us vs : List ℕ) → Run us → Run (us ++ vs)
@@ -180,52 +181,104 @@ run-from us (v ∷ vs) r = subst Run (append-snoc us v vs) (run-from (us ++ v �
 run : (ws : List ℕ) → Run ws
 run ws = run-from [] ws (none [] refl)
 
--- fourteen values in their fields are the values of what they are read as
-sealed-is : (xs : List ℕ) → length xs ≡ 14 → Below xs → InFields 0 xs → limitsVerdict (settingsOf xs) ≡ Accepted
-    → (wordsOf (settingsOf xs) ≡ wordsFrom 0 xs ++ packed 15 (checksumOf xs) ∷ []) × (acceptable (settingsOf xs) ≡ true)
-unfolding wordsOf fieldOk
-sealed-is [] n b f l = absurd (omega arith)
-sealed-is (x ∷ ys) n b f l =
-    let e : x ≡ 1 = eqb-true x 1 (f .0) in
-    let m : length ys ≡ 13 = omega arith in (
-      rw (e, values-of ys m (b .1)),
-      acceptable-of (settingsOf (x ∷ ys)) (rw e (range-of ys m (f .1))) l,
-    )
+below-zeros : (n : ℕ) → Below (replicate n 0)
+below-zeros zero = tt
+below-zeros (suc n) = (omega arith, below-zeros n)
 
-pub completed : (s : Settings) (ws : List ℕ) (w : ℕ) → readOf (pendingAfter ws) w .outcome ≡ Complete s → EndsIn s (ws ++ w ∷ [])
+-- a whole run, and zeros for what its layout does not send, are the values of what they are read as
+module _ (xs : List ℕ) (n : length xs ≡ size (layoutOf xs)) (b : Below xs) (i : InFields 0 xs) where
+  abbrev d : List ℕ
+  d = pendingOf xs .values
+
+  abbrev l : ℕ
+  l = layoutOf xs
+
+  -- kind 14's value is in its field, and 0 where it is not sent
+  ends : (t : Bool) → eqb l 1 ≡ t → InFields 0 d × (at d 14 < topsEnd t)
+  unfolding fieldOk spell
+  ends true e =
+      let m : length xs ≡ 14 = n ∙ ap (λ (u : Bool). cond u 14 15) e in
+      let s = spelled 14 xs m in
+      rw m (fields-append 0 xs 0 i (rw m), rw s (omega arith))
+  ends false e =
+      let m : length xs ≡ 15 = n ∙ ap (λ (u : Bool). cond u 14 15) e in
+      let s = spelled 15 xs m in
+      let j = rw s at i in
+      rw (m, append-nil xs) (i, rw s (ltb-true _ (2 ^ 12) (j .1 .1 .1 .1 .1 .1 .1 .1 .1 .1 .1 .1 .1 .1 .0)))
+
+  sheet : Sheet d
+  sheet =
+      let h = size-below l in
+      let e = ends (eqb l 1) refl in
+      record {
+        long = omega (arith, length-append xs (replicate (15 - length xs) 0), length-replicate {A = ℕ} (15 - length xs) 0);
+        below = below-append xs (replicate (15 - length xs) 0) b (below-zeros (15 - length xs));
+        fields = e .0;
+        unsent = rw (layout-of-run xs) (e .1);
+      }
+
+  is-layout : isLayout l ≡ true
+  unfolding fieldOk
+  is-layout = go xs n i
+    where
+      go : (ys : List ℕ) → length ys ≡ size (layoutOf ys) → InFields 0 ys → isLayout (layoutOf ys) ≡ true
+      go [] m f = absurd (omega arith)
+      go (y ∷ ys) m f = f .0
+
+  words-are : wordsFrom 0 xs ++ packed 15 (checksumOf d) ∷ [] ≡ wordsOf l (settingsOf d)
+  unfolding wordsOf
+  words-are =
+      let c = carries d sheet in
+      let e : valuesOf l (settingsOf d) ≡ d = subst (λ (j : ℕ). valuesOf j (settingsOf d) ≡ d) (layout-of-run xs) (c .values) in
+      let t : sent l (settingsOf d) ≡ xs = ap (take (size l)) e ∙ take-at xs (replicate (15 - length xs) 0) (size l) n in
+      rw (t, checksum-padded xs (15 - length xs))
+
+  sound-here : limitsVerdict (settingsOf d) ≡ Accepted → sendable l (settingsOf d) ≡ true
+  sound-here v =
+      let c = carries d sheet in
+      sendable-of l (settingsOf d)
+      (record {
+        is-layout = is-layout;
+        held = subst (λ (j : ℕ). layoutHolds j (settingsOf d) ≡ true) (layout-of-run xs) (c .held);
+        good = acceptable-of (settingsOf d) (c .range) v;
+      })
+
+pub completed : (s : Settings) (ws : List ℕ) (w : ℕ) → readOf (pendingAfter ws) w .outcome ≡ Complete s
+    → EndsIn (layoutIn (pendingAfter ws)) s (ws ++ w ∷ [])
 completed s ws w o = go (run ws) (read-by (pendingAfter ws) w)
   where
     clash : {X : Type 0} (t : Outcome) → (Complete s ≡ t → ⊥) → readOf (pendingAfter ws) w .outcome ≡ t → X
     clash t n e = absurd (n (sym o ∙ e))
 
-    end : (r : Run ws) → dueKind (pendingAfter ws .count) ≡ 15 → w ≡ packed 15 (checksumOf (pendingAfter ws .values))
-        → limitsVerdict (settingsOf (pendingAfter ws .values)) ≡ Accepted → s ≡ settingsOf (pendingAfter ws .values) → EndsIn s (ws ++ w ∷ [])
-    end r d i l q =
+    end : (r : Run ws) → size (layoutIn (pendingAfter ws)) ≤ pendingAfter ws .count → w ≡ packed 15 (checksumOf (pendingAfter ws .values))
+        → limitsVerdict (settingsOf (pendingAfter ws .values)) ≡ Accepted → s ≡ settingsOf (pendingAfter ws .values)
+        → EndsIn (layoutIn (pendingAfter ws)) s (ws ++ w ∷ [])
+    end r h i v q =
         let xs = r .xs in
+        let l : layoutIn (pendingAfter ws) ≡ layoutOf xs = ap layoutIn (r .pending) ∙ layout-of-run xs in
         let c : pendingAfter ws .count ≡ length xs = ap (λ (p : Pending). p .count) (r .pending) in
-        let t = due-end (pendingAfter ws .count) d in
-        let h = r .short in
-        let n : length xs ≡ 14 = omega arith in
-        let blank : replicate {A = ℕ} (14 - length xs) 0 ≡ [] = rw n in
-        let v : pendingAfter ws .values ≡ xs = ap (λ (p : Pending). p .values) (r .pending) ∙ rw (blank, append-nil xs) in
-        let a = sealed-is xs n (r .fits) (r .fields) (rw v at l) in
-        let same : s ≡ settingsOf xs = q ∙ ap settingsOf v in
-        let u : w ≡ packed 15 (checksumOf xs) = i ∙ ap (λ (x : List ℕ). packed 15 (checksumOf x)) v in
-        record {
+        let g : size (layoutOf xs) ≤ length xs = rw (c, l) at h in
+        let k = r .short in
+        let n : length xs ≡ size (layoutOf xs) = omega arith in
+        let d : pendingAfter ws .values ≡ pendingOf xs .values = ap (λ (p : Pending). p .values) (r .pending) in
+        let same : s ≡ settingsOf (pendingOf xs .values) = q ∙ ap settingsOf d in
+        let u : w ≡ packed 15 (checksumOf (pendingOf xs .values)) = i ∙ ap (λ (x : List ℕ). packed 15 (checksumOf x)) d in
+        rw (l, same) (record {
           before = r .before;
           words =
               ap (λ (us : List ℕ). us ++ w ∷ []) (r .words) ∙ append-assoc (r .before) (wordsFrom 0 xs) (w ∷ [])
-              ∙ ap (λ (us : List ℕ). r .before ++ us) (ap (λ (x : ℕ). wordsFrom 0 xs ++ x ∷ []) u ∙ sym (a .0) ∙ ap wordsOf (sym same));
-          sound = rw same (a .1);
-        }
+              ∙ ap (λ (us : List ℕ). r .before ++ us)
+              (ap (λ (x : ℕ). wordsFrom 0 xs ++ x ∷ []) u ∙ words-are xs n (r .fits) (r .fields));
+          sound = sound-here xs n (r .fits) (r .fields) (rw d at v);
+        })
 
     out : {a : Reading} → readOf (pendingAfter ws) w ≡ a → readOf (pendingAfter ws) w .outcome ≡ a .outcome
     out e = ap (λ (b : Reading). b .outcome) e
 
-    go : Run ws → ReadBy (pendingAfter ws) w → EndsIn s (ws ++ w ∷ [])
+    go : Run ws → ReadBy (pendingAfter ws) w → EndsIn (layoutIn (pendingAfter ws)) s (ws ++ w ∷ [])
     go r (refuses x e) = clash (Refused x) (λ q. let z : _≡_ {A = ℕ} 0 1 = cc in omega arith) (out e)
-    go r (accepted (begins i e)) = clash Stored (λ q. let z : _≡_ {A = ℕ} 0 1 = cc in omega arith) (out e)
-    go r (accepted (keeps d z l i e)) = clash Stored (λ q. let z : _≡_ {A = ℕ} 0 1 = cc in omega arith) (out e)
-    go r (accepted (closes d i l e)) =
+    go r (accepted (begins i h e)) = clash Stored (λ q. let z : _≡_ {A = ℕ} 0 1 = cc in omega arith) (out e)
+    go r (accepted (keeps k h z f e)) = clash Stored (λ q. let z : _≡_ {A = ℕ} 0 1 = cc in omega arith) (out e)
+    go r (accepted (closes h i l e)) =
         let q : Complete s ≡ Complete (settingsOf (pendingAfter ws .values)) = sym o ∙ out e in
-        end r d i l (cc)
+        end r h i l (cc)

@@ -1,6 +1,7 @@
 pub mod Values
-pub mod Placed
+pub mod Fifteen
+pub mod Run
 pub mod There
-pub mod Thirteen
-pub mod Back
+pub mod Once
 pub mod Completed
+pub mod Back

@@ -5,7 +5,7 @@ use mathlib.Core.Path.{_≡_}
 use mathlib.Core.Bool.{true}
 use mathlib.Core.List.{List, [], _∷_, _++_}
 use Rattle.settings.specs.declared.Settings.{Settings}
-use Rattle.checks.specs.Check.{acceptable}
+use Rattle.checks.specs.Check.{sendable}
 use Rattle.words.specs.Encode.{wordsOf}
 use Rattle.reader.specs.Pending.{Pending}
 use Rattle.reader.specs.Read.{emptyPending, readOf}
@@ -19,8 +19,8 @@ abbrev pub pendingAfter : List ℕ → Pending
 pendingAfter ws = pendingFrom emptyPending ws
 
 -- 01: "an unbroken run of due words from a start word on, none refused, … closed by an end word that meets no refusal": the words end in
--- the fifteen words of settings, and these are acceptable. Refusal 7, which goes by the drive, is left to the axis
-pub record EndsIn (s : Settings) (ws : List ℕ) : Type 0 where
+-- the words of settings in a layout, in which these may be sent. Refusal 7, which goes by the drive, is left to the axis
+pub record EndsIn (layout : ℕ) (s : Settings) (ws : List ℕ) : Type 0 where
   pub before : List ℕ
-  pub words : ws ≡ before ++ wordsOf s
-  pub sound : acceptable s ≡ true
+  pub words : ws ≡ before ++ wordsOf layout s
+  pub sound : sendable layout s ≡ true

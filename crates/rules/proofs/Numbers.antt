@@ -8,14 +8,15 @@ use native.Mathlib.Omega.{arith}
 use borrow.Author.Tests.{ne-eqb, eq-eqb}
 use Rattle.settings.specs.declared.Settings.{Settings}
 use Rattle.settings.specs.declared.Refusal.{Refusal}
-use Rattle.settings.specs.declared.Refusal.the-variants.{OutOfSequence, UnknownLayout, OutOfRange, ChecksumMismatch, LimitsCrossed, OutOfReach, DriveActive, NoSettings, BufferTooShort}
+use Rattle.settings.specs.declared.Refusal.the-variants.{OutOfSequence, UnknownLayout, OutOfRange, ChecksumMismatch, LimitsCrossed, OutOfReach, DriveActive, NoSettings, BufferTooShort, LongValue}
 use Rattle.settings.specs.Refusal.{numberOf, verdictNumber, Test, firstOf}
 use Rattle.words.specs.Word.{kindOf}
 use Rattle.words.specs.Encode.{checksumOf}
 use Rattle.reader.specs.Pending.{Pending, Reading, Outcome, Refused, Stored, Complete}
-use Rattle.reader.specs.Read.{readOf, outcomeNumber}
+use Rattle.reader.specs.Read.{layoutIn, readOf, outcomeNumber}
 use Rattle.reader.specs.Cases.{isEnd}
 use Rattle.reader.specs.Cases as reader
+use Rattle.layouts.proofs.Sizes.{size-below}
 use Rattle.reader.proofs.Numbers.{numbers}
 use Rattle.reader.proofs.Accepted.{AcceptedBy, begins, keeps, closes, accepted-by}
 use Rattle.states.specs.States.{liveOf}
@@ -58,6 +59,7 @@ positive OutOfReach e = omega arith
 positive DriveActive e = omega arith
 positive NoSettings e = omega arith
 positive BufferTooShort e = omega arith
+positive LongValue e = omega arith
 
 -- ---- an end word completes settings or is refused, and no other word completes any
 
@@ -69,8 +71,8 @@ module _ (p : Pending) (w : ℕ) where
   stored-no-end o = go (accepted-by p w (ap outcomeNumber o))
     where
       go : AcceptedBy p w → isEnd w ≡ false
-      go (begins i e) = rw i
-      go (keeps d k l i e) = ne-eqb (kindOf w) 15 (λ q. omega arith)
+      go (begins i k e) = ne-eqb (kindOf w) 15 (λ q. omega arith)
+      go (keeps d l k i e) = let b = size-below (layoutIn p) in ne-eqb (kindOf w) 15 (λ q. omega arith)
       go (closes d i l e) = absurd (unstored (sym (ap (λ (a : Reading). a .outcome) e) ∙ o))
 
   complete-end : (s : Settings) → readOf p w .outcome ≡ Complete s → isEnd w ≡ true
@@ -78,8 +80,8 @@ module _ (p : Pending) (w : ℕ) where
   complete-end s o = go (accepted-by p w (ap outcomeNumber o))
     where
       go : AcceptedBy p w → isEnd w ≡ true
-      go (begins i e) = absurd (unstored (sym o ∙ ap (λ (a : Reading). a .outcome) e))
-      go (keeps d k l i e) = absurd (unstored (sym o ∙ ap (λ (a : Reading). a .outcome) e))
+      go (begins i k e) = absurd (unstored (sym o ∙ ap (λ (a : Reading). a .outcome) e))
+      go (keeps d l k i e) = absurd (unstored (sym o ∙ ap (λ (a : Reading). a .outcome) e))
       go (closes d i l e) = eq-eqb (kindOf w) 15 (omega arith)
 
 -- ---- the numbers

@@ -21,8 +21,8 @@ left-empty p w n = go (read-by p w)
     go : ReadBy p w → readOf p w .pending ≡ emptyPending
     go (refuses r e) = ap (λ (a : Reading). a .pending) e
     go (accepted (closes d i l e)) = ap (λ (a : Reading). a .pending) e
-    go (accepted (begins i e)) = absurd (n (ap (λ (a : Reading). a .outcome) e))
-    go (accepted (keeps d z l i e)) = absurd (n (ap (λ (a : Reading). a .outcome) e))
+    go (accepted (begins i k e)) = absurd (n (ap (λ (a : Reading). a .outcome) e))
+    go (accepted (keeps d l z i e)) = absurd (n (ap (λ (a : Reading). a .outcome) e))
 
 pub refused-word : RefusedWords
 unfolding wordOf

@@ -1,22 +1,25 @@
 -- Every answer fits its page: each part of a text has a bound, and the bounds add up.
 -- Assumes nothing.
 use Prim.Native.Nat.{ℕ, zero, suc, _+_, _*_, _/_, _%_, _≤_, min}
-use mathlib.Core.Bool.{Bool, true, false, cond, _||_}
+use mathlib.Core.Bool.{Bool, true, false, cond, not, _||_}
 use mathlib.Core.List.{List, [], _∷_, _++_}
 use mathlib.Core.Path.{_≡_, refl}
 use native.Mathlib.Omega.{arith}
 use borrow.Author.Tests.{ltb-false}
-use lib.Dec.{eqb, ltb, leb}
+use lib.Dec.{eqb, leb}
 use lib.IntN.{ℤ, pos, negsuc}
 use lib.ListN.{length, drop, length-append, length-drop, length-replicate}
+use lib.Seq.{length-take-le}
 use Rattle.settings.specs.declared.Settings.{Settings}
 use Rattle.settings.specs.declared.Verdict.{Verdict}
 use Rattle.settings.specs.declared.Verdict.the-variants.{Accepted, Refused}
 use Rattle.settings.specs.Refusal.{verdictNumber}
+use Rattle.layouts.specs.Layout.{isLayout, size}
+use Rattle.layouts.proofs.Sizes.{size-below}
 use Rattle.answers.specs.declared.Answer.{Answer}
-use Rattle.words.specs.Encode.{valuesOf, wordsOf}
+use Rattle.words.specs.Encode.{valuesOf, sent, wordsOf}
 use Rattle.words.proofs.Words.{length-sealed}
-use Rattle.writer.specs.Write.{writeVerdict, bufferAfter, written}
+use Rattle.writer.specs.Write.{needed, bufferTooShort, writeVerdict, bufferAfter, written}
 use Rattle.sheets.specs.declared.Writing.{Writing}
 use Rattle.numerals.specs.Writing.{glyph, digits, hexadecimal, decimal, whole}
 use Rattle.tokens.specs.Ascii.{ascii}
@@ -25,7 +28,7 @@ use Rattle.complaints.specs.Texts.{expectedText, lineAndColumnText}
 use Rattle.cursors.specs.declared.Expected.{Expected}
 use Rattle.cursors.specs.declared.Expected.the-variants.{Keyword, Digits, Whole, Float, Command, At, Switches, Standstill, Set, End}
 use Rattle.lent.specs.Lent.{lentOf, writtenText}
-use Rattle.lines.specs.declared.Line.the-variants.{Blank, Fresh, Word, Tick, Sheet, Unreadable}
+use Rattle.lines.specs.declared.Line.the-variants.{Blank, Fresh, Word, Tick, Sheet, Layout, Unreadable}
 use Rattle.rules.specs.Word.{wordOf}
 use Rattle.rules.specs.Tick.{tickOf}
 use Rattle.session.specs.Answering.{Fits, LongFits}
@@ -77,7 +80,7 @@ trade-short n =
     (either (eqb n 3) (is (omega arith))
     (either (eqb n 4) (is (omega arith))
     (either (eqb n 5) (is (omega arith))
-    (either (eqb n 6) (is (omega arith)) (either (eqb n 7) (is (omega arith)) (either (eqb n 8) (is (omega arith)) (is (omega arith))))))))))
+    (either (eqb n 6) (is (omega arith)) (either (eqb n 7) (is (omega arith)) (either (eqb n 8) (is (omega arith)) (either (eqb n 9) (is (omega arith)) (is (omega arith)))))))))))
 
 word-short : (n : ℕ) → Short 512 (wordText n)
 word-short n = within (both (both (all (ascii "word ")) (decimal-short n)) (trade-short n)) (omega arith)
@@ -107,24 +110,27 @@ words-short [] = is (omega arith)
 words-short (w ∷ ws) = within (both (both (all (32 ∷ [])) (hexadecimal-short 8 w)) (words-short ws)) (omega arith)
 
 -- the writer keeps the buffer's length
-kept : (s : Settings) (buffer : List ℕ) → length (written s buffer) ≡ length buffer
+kept : (layout : ℕ) (s : Settings) (buffer : List ℕ) → length (written layout s buffer) ≡ length buffer
 unfolding writeVerdict wordsOf valuesOf
-kept s buffer = go (ltb (length buffer) 15) refl
+kept layout s buffer = go (not (isLayout layout)) (bufferTooShort layout buffer) refl refl
   where
-    filled : (v : Verdict) → 15 ≤ length buffer → length (bufferAfter v s buffer) ≡ length buffer
-    filled Accepted h = omega (arith, h, length-append (wordsOf s) (drop 15 buffer), length-sealed (valuesOf s), length-drop 15 buffer)
+    filled : (v : Verdict) → needed layout ≤ length buffer → length (bufferAfter v layout s buffer) ≡ length buffer
+    filled Accepted h =
+        let b = size-below layout in
+        omega (arith, h, length-append (wordsOf layout s) (drop (needed layout) buffer), length-sealed (sent layout s), length-take-le (size layout) (valuesOf layout s) (omega arith), length-drop (needed layout) buffer)
     filled (Refused r) h = refl
 
-    go : (t : Bool) → ltb (length buffer) 15 ≡ t → length (written s buffer) ≡ length buffer
-    go true e = rw e
-    go false e = filled (writeVerdict s buffer) (ltb-false (length buffer) 15 e)
+    go : (u t : Bool) → not (isLayout layout) ≡ u → bufferTooShort layout buffer ≡ t → length (written layout s buffer) ≡ length buffer
+    go true t d e = rw d
+    go false true d e = rw (d, e)
+    go false false d e = filled (writeVerdict layout s buffer) (ltb-false (length buffer) (needed layout) e)
 
-sheet-short : (w : Writing) → Short 512 (writtenText w)
-sheet-short w =
-    let n = verdictNumber (writeVerdict (w .settings) (lentOf w)) in
-    let ws = written (w .settings) (lentOf w) in
-    within (both (both (both (all (ascii "sheet ")) (decimal-short n)) (words-short ws)) (trade-short n))
-    (omega (arith, kept (w .settings) (lentOf w), length-replicate {A = ℕ} (min (w .length) 32) 0xDEADBEEF))
+written-short : (name : List ℕ) (w : Writing) → Short 7 name → Short 512 (writtenText name w)
+written-short name w h =
+    let n = verdictNumber (writeVerdict (w .layout) (w .settings) (lentOf w)) in
+    let ws = written (w .layout) (w .settings) (lentOf w) in
+    within (both (both (both h (decimal-short n)) (words-short ws)) (trade-short n))
+    (omega (arith, kept (w .layout) (w .settings) (lentOf w), length-replicate {A = ℕ} (min (w .length) 32) 0xDEADBEEF))
 
 line-and-column-short : (line column : ℕ) → Short 52 (lineAndColumnText line column)
 line-and-column-short line column =
@@ -150,5 +156,6 @@ fits s Blank = omega arith
 fits s Fresh = omega arith
 fits s (Word w) = word-short (verdictNumber (wordOf (s .axis) w .verdict)) .short
 fits s (Tick t) = tick-short (tickOf (s .axis) t .answer) .short
-fits s (Sheet w) = sheet-short w .short
+fits s (Sheet w) = written-short (ascii "sheet ") w (is (omega arith)) .short
+fits s (Layout w) = written-short (ascii "layout ") w (is (omega arith)) .short
 fits s (Unreadable t) = within {n = 512} (both (line-and-column-short (s .lines) (t .column)) (expected-short (t .expected))) (omega arith) .short

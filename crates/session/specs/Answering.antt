@@ -10,11 +10,12 @@ use Rattle.rules.specs.Word.{wordOf}
 use Rattle.cells.specs.Cells.{axisIn}
 use Rattle.lent.specs.Lent.{writtenText}
 use Rattle.lines.specs.declared.Line.{Line}
-use Rattle.lines.specs.declared.Line.the-variants.{Blank, Fresh, Word, Tick, Sheet, Unreadable}
+use Rattle.lines.specs.declared.Line.the-variants.{Blank, Fresh, Word, Tick, Sheet, Layout, Unreadable}
 use Rattle.page.specs.Page.{Printed}
 use Rattle.complaints.specs.Texts.{unreadableText, longText}
 use Rattle.printer.specs.Texts.{freshText, wordText, tickText}
 use Rattle.settings.specs.Refusal.{verdictNumber}
+use Rattle.tokens.specs.Ascii.{ascii}
 use Rattle.session.specs.declared.Turn.{Turn}
 use Rattle.session.specs.declared.Session.{Session}
 
@@ -44,6 +45,7 @@ conversationAfter s Fresh = withAxis s freshAxis
 conversationAfter s (Word w) = withAxis s (wordOf (s .axis) w .axis)
 conversationAfter s (Tick t) = withAxis s (tickOf (s .axis) t .axis)
 conversationAfter s (Sheet w) = s
+conversationAfter s (Layout w) = s
 conversationAfter s (Unreadable t) = s
 
 abbrev pub textOf : Conversation → Line → List ℕ
@@ -51,7 +53,8 @@ textOf s Blank = []
 textOf s Fresh = freshText
 textOf s (Word w) = wordText (verdictNumber (wordOf (s .axis) w .verdict))
 textOf s (Tick t) = tickText (tickOf (s .axis) t .answer)
-textOf s (Sheet w) = writtenText w
+textOf s (Sheet w) = writtenText (ascii "sheet ") w
+textOf s (Layout w) = writtenText (ascii "layout ") w
 textOf s (Unreadable t) = unreadableText (s .lines) t
 
 -- the session then means s, and the text is printed on the page

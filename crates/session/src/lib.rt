@@ -24,7 +24,7 @@ impl Session {
     pub fn fresh() -> Session
         ensures { λ r. ⌜ meant r ≡ freshConversation ⌝ }
     {
-        let mut axis: Lent = [0; 37];
+        let mut axis: Lent = [0; 38];
         axis::fresh(&mut axis);
         Session { axis, lines: 0 }
     }
@@ -77,7 +77,14 @@ impl Session {
             Line::Word(word) => self.word(word, out),
             Line::Tick(tick) => self.tick(tick, out),
             Line::Sheet(writing) => {
-                let length = lent::write(writing, out);
+                let length = lent::write(b"sheet ", writing, out);
+                Turn {
+                    session: self,
+                    length,
+                }
+            }
+            Line::Layout(writing) => {
+                let length = lent::write(b"layout ", writing, out);
                 Turn {
                     session: self,
                     length,

@@ -1,18 +1,21 @@
 -- 01, "The sheet": every field in its range.
 -- Assumes nothing.
+use Prim.Native.Nat.{ℕ}
 use mathlib.Core.Bool.{Bool, _&&_}
-use Rattle.ranges.specs.Range.{methodOk, speedOk, ratioOk, positionOk, torqueOk, optionOk, ratedOk}
+use Rattle.counts.specs.Fits.{fits}
+use Rattle.ranges.specs.Range.{methodOk, speedOk, ratioOk, torqueOk, optionOk, ratedOk}
 use Rattle.settings.specs.declared.Settings.{Settings}
 
--- the fields in the order of their kinds
+-- offset and stops fit so many bits signed
+unfoldable pub positionsFit : ℕ → Settings → Bool
+positionsFit bits s = fits bits (s .offset) && fits bits (s .lower) && fits bits (s .upper)
+
+-- the other fields in the order of their kinds
 abbrev pub homingOk : Settings → Bool
 homingOk s = methodOk (s .method) && speedOk (s .fast) && speedOk (s .slow)
 
 abbrev pub gearOk : Settings → Bool
-gearOk s = positionOk (s .offset) && ratioOk (s .numerator) && ratioOk (s .denominator)
-
-abbrev pub positionLimitsOk : Settings → Bool
-positionLimitsOk s = positionOk (s .lower) && positionOk (s .upper)
+gearOk s = ratioOk (s .numerator) && ratioOk (s .denominator)
 
 abbrev pub torquesOk : Settings → Bool
 torquesOk s =
@@ -21,5 +24,6 @@ torquesOk s =
 abbrev pub driveOk : Settings → Bool
 driveOk s = optionOk (s .option) && ratedOk (s .rated)
 
+-- 02, (iv): offset and stops are "32-bit signed"; how many bits a layout has for them is said in `layouts/specs/Layout.antt`
 unfoldable pub inRange : Settings → Bool
-inRange s = homingOk s && gearOk s && positionLimitsOk s && torquesOk s && driveOk s
+inRange s = positionsFit 32 s && homingOk s && gearOk s && torquesOk s && driveOk s

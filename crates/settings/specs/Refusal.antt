@@ -1,10 +1,10 @@
--- 01, "Refused words, ticks and buffers": the number of each refusal, with the trade word that 01 has for it.
+-- 01, "Refused words, ticks and buffers", and 02: the number of each refusal, with the trade word that they have for it.
 -- Assumes nothing.
 use Prim.Native.Nat.{ℕ}
 use mathlib.Core.Bool.{Bool, cond}
 use mathlib.Core.List.{List, [], _∷_}
 use Rattle.settings.specs.declared.Refusal.{Refusal}
-use Rattle.settings.specs.declared.Refusal.the-variants.{OutOfSequence, UnknownLayout, OutOfRange, ChecksumMismatch, LimitsCrossed, OutOfReach, DriveActive, NoSettings, BufferTooShort}
+use Rattle.settings.specs.declared.Refusal.the-variants.{OutOfSequence, UnknownLayout, OutOfRange, ChecksumMismatch, LimitsCrossed, OutOfReach, DriveActive, NoSettings, BufferTooShort, LongValue}
 use Rattle.settings.specs.declared.Verdict.{Verdict}
 use Rattle.settings.specs.declared.Verdict.the-variants.{Accepted, Refused}
 
@@ -18,6 +18,7 @@ numberOf OutOfReach = 6  -- out of reach
 numberOf DriveActive = 7  -- axis live
 numberOf NoSettings = 8  -- no sheet
 numberOf BufferTooShort = 9  -- short buffer
+numberOf LongValue = 10  -- long value
 
 -- "an accepted word, a filled buffer and a tick not refused carry 0"
 abbrev pub verdictNumber : Verdict → ℕ

@@ -1,7 +1,7 @@
-// Every field of the settings in its range (01: refusal 3).
+// Every field of the settings in its range (01: refusal 3). Offset and position limits have 32 bits, as an i32 has: every one is in range.
 use crate::Settings;
 ghost use mathlib.Core.Path.{_≡_};
-ghost use Rattle.settings.specs.Ranges.{homingOk, gearOk, positionLimitsOk, torquesOk, driveOk, inRange};
+ghost use Rattle.settings.specs.Ranges.{homingOk, gearOk, torquesOk, driveOk, inRange};
 
 fn homing_ok(s: Settings) -> bool
     ensures { λ r. ⌜ r ≡ homingOk s ⌝ }
@@ -12,13 +12,7 @@ fn homing_ok(s: Settings) -> bool
 fn gear_ok(s: Settings) -> bool
     ensures { λ r. ⌜ r ≡ gearOk s ⌝ }
 {
-    ranges::position_ok(s.offset) & ranges::ratio_ok(s.numerator) & ranges::ratio_ok(s.denominator)
-}
-
-fn position_limits_ok(s: Settings) -> bool
-    ensures { λ r. ⌜ r ≡ positionLimitsOk s ⌝ }
-{
-    ranges::position_ok(s.lower) & ranges::position_ok(s.upper)
+    ranges::ratio_ok(s.numerator) & ranges::ratio_ok(s.denominator)
 }
 
 fn torques_ok(s: Settings) -> bool
@@ -41,5 +35,5 @@ fn drive_ok(s: Settings) -> bool
 pub fn in_range(s: Settings) -> bool
     ensures { λ r. ⌜ r ≡ inRange s ⌝ }
 {
-    homing_ok(s) & gear_ok(s) & position_limits_ok(s) & torques_ok(s) & drive_ok(s)
+    homing_ok(s) & gear_ok(s) & torques_ok(s) & drive_ok(s)
 }

@@ -34,7 +34,7 @@ pub struct Settings {
     pub rated: u32,
 }
 
-// Why a settings word, settings, a tick or a lent buffer is refused (01: refused words, ticks and buffers).
+// Why a settings word, settings, a tick or a lent buffer is refused (01: refused words, ticks and buffers; 02).
 pub enum Refusal {
     OutOfSequence,
     UnknownLayout,
@@ -45,6 +45,7 @@ pub enum Refusal {
     DriveActive,
     NoSettings,
     BufferTooShort,
+    LongValue,
 }
 
 pub enum Verdict {
@@ -52,7 +53,7 @@ pub enum Verdict {
     Refused(Refusal),
 }
 
-// The refusal's number in 01.
+// The refusal's number in 01 and 02.
 pub fn number(refusal: Refusal) -> u32
     ensures { λ r. ⌜ r ≡ numberOf refusal ⌝ }
 {
@@ -66,10 +67,11 @@ pub fn number(refusal: Refusal) -> u32
         Refusal::DriveActive => 7,
         Refusal::NoSettings => 8,
         Refusal::BufferTooShort => 9,
+        Refusal::LongValue => 10,
     }
 }
 
-// The verdict's number in 01: 0 where accepted.
+// The verdict's number: 0 where accepted.
 pub fn verdict_number(verdict: Verdict) -> u32
     ensures { λ r. ⌜ r ≡ verdictNumber verdict ⌝ }
 {

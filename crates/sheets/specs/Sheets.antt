@@ -1,4 +1,5 @@
--- "sheet LENGTH METHOD FAST SLOW OFFSET NUM DEN LOWER UPPER MAX P1 N1 P2 N2 OPTION RATED"; "OFFSET, LOWER and UPPER are I32"
+-- docs/LINES.md: "sheet LENGTH METHOD FAST SLOW OFFSET NUM DEN LOWER UPPER MAX P1 N1 P2 N2 OPTION RATED", and "layout LAYOUT LENGTH .. RATED";
+-- "OFFSET, LOWER and UPPER are I32"
 -- Assumes nothing.
 use Prim.Native.Nat.{ℕ, _^_}
 use mathlib.Core.List.{List}
@@ -8,7 +9,6 @@ use Rattle.cursors.specs.declared.Cursor.{Cursor}
 use Rattle.cursors.specs.declared.Expected.the-variants as expected
 use Rattle.scanner.specs.declared.NumberRead.{NumberRead}
 use Rattle.scanner.specs.declared.WholeRead.{WholeRead}
-use Rattle.cursors.specs.Cursor.{lineEnd}
 use Rattle.scanner.specs.Readings.{numberAt, wholeAt}
 use Rattle.sheets.specs.declared.HomingRead.{HomingRead}
 use Rattle.sheets.specs.declared.TravelRead.{TravelRead}
@@ -48,8 +48,8 @@ torquesRead text c =
     let rated = unsignedAt text (option .cursor) in
     record { maximum = maximum .value; positive1 = positive1 .value; negative1 = negative1 .value; positive2 = positive2 .value; negative2 = negative2 .value; option = option .value; rated = rated .value; cursor = rated .cursor }
 
-unfoldable pub sheetRead : List ℕ → Cursor → WritingRead
-sheetRead text c =
+unfoldable pub fieldsRead : ℕ → List ℕ → Cursor → WritingRead
+fieldsRead layout text c =
     let length = numberAt lengthOf expected.Whole text c in
     let homing = homingRead text (length .cursor) in
     let travel = travelRead text (homing .cursor) in
@@ -57,6 +57,7 @@ sheetRead text c =
     record {
       writing =
           record {
+            layout = layout;
             length = length .value;
             settings =
                 record {
@@ -77,5 +78,14 @@ sheetRead text c =
                   rated = torques .rated;
                 };
           };
-      cursor = lineEnd text (torques .cursor);
+      cursor = torques .cursor;
     }
+
+-- 02, (iv): the writer "is told the layout"; a line that names none tells it layout 1
+abbrev pub sheetRead : List ℕ → Cursor → WritingRead
+sheetRead text c = fieldsRead 1 text c
+
+abbrev pub layoutRead : List ℕ → Cursor → WritingRead
+layoutRead text c =
+    let layout = unsignedAt text c in
+    fieldsRead (layout .value) text (layout .cursor)

@@ -1,11 +1,12 @@
-// A sheet's words: LENGTH METHOD FAST SLOW OFFSET NUM DEN LOWER UPPER MAX P1 N1 P2 N2 OPTION RATED.
+// The words after `sheet`: LENGTH METHOD FAST SLOW OFFSET NUM DEN LOWER UPPER MAX P1 N1 P2 N2 OPTION RATED. After `layout` LAYOUT comes first.
 use cursors::Cursor;
 use settings::Settings;
 ghost use mathlib.Core.Path.{_≡_};
-ghost use Rattle.sheets.specs.Sheets.{homingRead, travelRead, torquesRead, sheetRead};
+ghost use Rattle.sheets.specs.Sheets.{homingRead, travelRead, torquesRead, fieldsRead, sheetRead, layoutRead};
 
-// Settings to be written to a buffer of `length` words.
+// Settings to be written in a layout, known or not, to a buffer of `length` words.
 pub struct Writing {
+    pub layout: u32,
     pub length: u32,
     pub settings: Settings,
 }
@@ -115,8 +116,9 @@ fn torques(text: &[u8], cursor: Cursor) -> TorquesRead
     }
 }
 
-pub fn sheet(text: &[u8], cursor: Cursor) -> WritingRead
-    ensures { λ r. ⌜ r ≡ sheetRead (now (text .entry)) cursor ⌝ }
+// LENGTH METHOD .. RATED.
+fn fields(layout: u32, text: &[u8], cursor: Cursor) -> WritingRead
+    ensures { λ r. ⌜ r ≡ fieldsRead layout (now (text .entry)) cursor ⌝ }
 {
     let length = scanner::length(text, cursor);
     let cursor = length.cursor;
@@ -128,6 +130,7 @@ pub fn sheet(text: &[u8], cursor: Cursor) -> WritingRead
     let cursor = torques.cursor;
     WritingRead {
         writing: Writing {
+            layout,
             length: length.value,
             settings: Settings {
                 method: homing.method,
@@ -147,6 +150,22 @@ pub fn sheet(text: &[u8], cursor: Cursor) -> WritingRead
                 rated: torques.rated,
             },
         },
-        cursor: cursor.end(text),
+        cursor,
     }
+}
+
+// A sheet line writes layout 1.
+pub fn sheet(text: &[u8], cursor: Cursor) -> WritingRead
+    ensures { λ r. ⌜ r ≡ sheetRead (now (text .entry)) cursor ⌝ }
+{
+    fields(1, text, cursor)
+}
+
+// LAYOUT, and what a sheet line has.
+pub fn layout(text: &[u8], cursor: Cursor) -> WritingRead
+    ensures { λ r. ⌜ r ≡ layoutRead (now (text .entry)) cursor ⌝ }
+{
+    let layout = scanner::unsigned(text, cursor);
+    let cursor = layout.cursor;
+    fields(layout.value, text, cursor)
 }

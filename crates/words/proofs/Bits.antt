@@ -1,72 +1,104 @@
--- 28 bits read as signed and back; two torque limits in one word.
+-- Offset and limits of 28 or 32 bits, b saying which: the low 28 in one word, those above in another. Two torque limits in one word.
 -- Assumes nothing.
-use Prim.Native.Nat.{ℕ, suc, _-_, _/_, _%_, _^_, _<_, _≤_}
+use Prim.Native.Nat.{ℕ, suc, _+_, _-_, _*_, _/_, _%_, _^_, _<_, _≤_}
 use mathlib.Core.Path.{_≡_, refl, ap}
-use mathlib.Core.List.{List}
-use mathlib.Core.Bool.{Bool, true, false}
+use mathlib.Core.Bool.{Bool, true, false, cond}
 use native.Mathlib.Omega.{arith}
-use borrow.Author.Tests.{lt-ltb, le-ltb, ltb-true, ltb-false, le-leb, leb-true}
-use lib.Dec.{leb, ltb}
+use borrow.Author.Tests.{lt-ltb, ltb-true, ltb-false, leb-true}
+use lib.Dec.{ltb}
 use lib.IntN.{ℤ, pos, negsuc}
-use mir.Syntax.{w32}
-use mir.Val.{SFits}
+use Rattle.counts.specs.Fits.{fits}
 use Rattle.counts.specs.Wrap.{modulo, signed}
-use Rattle.ranges.specs.Range.{positionOk, torqueOk}
-use Rattle.settings.proofs.Within.{both}
-use Rattle.words.specs.Decode.{at, positionAt}
+use Rattle.counts.proofs.Fits.{bits, mag-fits, fits-mag}
+use Rattle.ranges.specs.Range.{torqueOk}
 use Rattle.words.specs.Encode.{limitSet}
 
-signed-low : (x : ℕ) → x < 2 ^ 27 → signed 28 x ≡ pos x
+-- what holds of both readings holds of `signed`
+pub signed-is : (P : ℤ → Type 0) (b : Bool) (x : ℕ) → x < 2 ^ bits b → (x < 2 ^ (bits b - 1) → P (pos x)) → (2 ^ (bits b - 1) ≤ x → P (negsuc (2 ^ bits b - suc x))) → P (signed (bits b) x)
 unfolding signed
-signed-low x h = rw (lt-ltb x (2 ^ 27) h)
-
-signed-high : (x : ℕ) → 2 ^ 27 ≤ x → x < 2 ^ 28 → signed 28 x ≡ negsuc (2 ^ 28 - suc x)
-unfolding signed
-signed-high x h k = rw (le-ltb x (2 ^ 27) h, lt-ltb x (2 ^ 28) k)
-
--- what holds of both readings holds of `signed 28 x`
-pub signed-is : (P : ℤ → Type 0) (x : ℕ) → x < 2 ^ 28 → (x < 2 ^ 27 → P (pos x)) → (2 ^ 27 ≤ x → P (negsuc (2 ^ 28 - suc x))) → P (signed 28 x)
-signed-is P x k f g = go (ltb x (2 ^ 27)) refl
+signed-is P b x k f g = go b (ltb x (2 ^ (bits b - 1))) refl k f g
   where
-    go : (t : Bool) → ltb x (2 ^ 27) ≡ t → P (signed 28 x)
-    go true e = let h = ltb-true x (2 ^ 27) e in rw (signed-low x h) (f h)
-    go false e = let h = ltb-false x (2 ^ 27) e in rw (signed-high x h k) (g h)
+    go : (b t : Bool) → ltb x (2 ^ (bits b - 1)) ≡ t → x < 2 ^ bits b → (x < 2 ^ (bits b - 1) → P (pos x)) → (2 ^ (bits b - 1) ≤ x → P (negsuc (2 ^ bits b - suc x))) → P (signed (bits b) x)
+    go true true e k f g = rw e (f (ltb-true x (2 ^ 27) e))
+    go true false e k f g = rw (e, lt-ltb x (2 ^ 28) k) (g (ltb-false x (2 ^ 27) e))
+    go false true e k f g = rw e (f (ltb-true x (2 ^ 31) e))
+    go false false e k f g = rw (e, lt-ltb x (2 ^ 32) k) (g (ltb-false x (2 ^ 31) e))
 
-pub modulo-below : (z : ℤ) → modulo 28 z < 2 ^ 28
+-- written: how large the parts are
+pub low-below : (z : ℤ) → modulo 28 z < 2 ^ 28
 unfolding modulo
-modulo-below (pos n) = omega arith
-modulo-below (negsuc n) = omega arith
+low-below (pos n) = omega arith
+low-below (negsuc n) = omega arith
 
-pub modulo-signed : (x : ℕ) → x < 2 ^ 28 → modulo 28 (signed 28 (x % 2 ^ 28)) ≡ x
+pub top-below : (b : Bool) (z : ℤ) → modulo (bits b) z / 2 ^ 28 < cond b 1 16
 unfolding modulo
-modulo-signed x h = signed-is (λ z. modulo 28 z ≡ x) (x % 2 ^ 28) (omega arith) (λ l. omega arith) (λ l. omega arith)
+top-below true (pos n) = omega arith
+top-below true (negsuc n) = omega arith
+top-below false (pos n) = omega arith
+top-below false (negsuc n) = omega arith
 
-pub signed-modulo : (z : ℤ) → positionOk z ≡ true → signed 28 (modulo 28 z % 2 ^ 28) ≡ z
+pub small : (b : Bool) {t : ℕ} → t < cond b 1 16 → t < 16
+small true h = omega arith
+small false h = h
+
+-- the low bits and those above are all bits
+pub low-of : (b : Bool) (z : ℤ) → modulo (bits b) z % 2 ^ 28 ≡ modulo 28 z
 unfolding modulo
-signed-modulo (pos n) e =
-    let h = ltb-true n (2 ^ 27) (both true (ltb n (2 ^ 27)) e .1) in
-    let r : n % 2 ^ 28 % 2 ^ 28 ≡ n = omega arith in
-    rw r (signed-low n h)
-signed-modulo (negsuc n) e =
-    let h = leb-true n (2 ^ 27 - 1) (both (leb n (2 ^ 27 - 1)) true e .0) in
-    let r : (2 ^ 28 - suc (n % 2 ^ 28)) % 2 ^ 28 ≡ 2 ^ 28 - suc n = omega arith in
-    rw (r, signed-high (2 ^ 28 - suc n) (omega arith) (omega arith)) (ap negsuc (omega arith))
+low-of true (pos n) = omega arith
+low-of true (negsuc n) = omega arith
+low-of false (pos n) = omega arith
+low-of false (negsuc n) = omega arith
 
--- on data that a word carried the guard of `positionAt` changes nothing
-pub position-kept : (d : List ℕ) (kind : ℕ) → at d kind < 2 ^ 28 → positionAt d kind ≡ signed 28 (at d kind)
-position-kept d kind h = ap (signed 28) (omega arith)
+whole : (b : Bool) (z : ℤ) → modulo 28 z + modulo (bits b) z / 2 ^ 28 * 2 ^ 28 ≡ modulo (bits b) z
+whole b z = omega (arith, low-of b z)
 
--- 28 bits always read as a position in range
-pub signed-ok : (x : ℕ) → positionOk (signed 28 (x % 2 ^ 28)) ≡ true
-signed-ok x =
-    signed-is (λ z. positionOk z ≡ true) (x % 2 ^ 28) (omega arith)
-    (λ l. rw (lt-ltb (x % 2 ^ 28) (2 ^ 27) l))
-    (λ l. rw (le-leb (2 ^ 28 - suc (x % 2 ^ 28)) (2 ^ 27 - 1) (omega arith)))
+-- written and read
+read : (b : Bool) (z : ℤ) → fits (bits b) z ≡ true → signed (bits b) (modulo (bits b) z % 2 ^ bits b) ≡ z
+unfolding modulo
+read true (pos n) e =
+    let h = fits-mag true (pos n) e in signed-is (λ y. y ≡ pos n) true _ (omega arith) (λ l. ap pos (omega arith)) (λ l. absurd (omega arith))
+read true (negsuc n) e =
+    let h = fits-mag true (negsuc n) e in signed-is (λ y. y ≡ negsuc n) true _ (omega arith) (λ l. absurd (omega arith)) (λ l. ap negsuc (omega arith))
+read false (pos n) e =
+    let h = fits-mag false (pos n) e in signed-is (λ y. y ≡ pos n) false _ (omega arith) (λ l. ap pos (omega arith)) (λ l. absurd (omega arith))
+read false (negsuc n) e =
+    let h = fits-mag false (negsuc n) e in signed-is (λ y. y ≡ negsuc n) false _ (omega arith) (λ l. absurd (omega arith)) (λ l. ap negsuc (omega arith))
 
--- a position in range fits 32 bits
-pub position-fits : (z : ℤ) → positionOk z ≡ true → SFits w32 z
-position-fits (pos n) e = omega (arith, ltb-true n (2 ^ 27) (both true (ltb n (2 ^ 27)) e .1))
-position-fits (negsuc n) e = omega (arith, leb-true n (2 ^ 27 - 1) (both (leb n (2 ^ 27 - 1)) true e .0))
+pub position-read : (b : Bool) (z : ℤ) (t : ℕ) → t ≡ modulo (bits b) z / 2 ^ 28 → fits (bits b) z ≡ true
+    → signed (bits b) ((modulo 28 z + t * 2 ^ 28) % 2 ^ bits b) ≡ z
+position-read b z t q e = rw (q, whole b z) (read b z e)
+
+-- read and written
+module _ (x t : ℕ) (h : x < 2 ^ 28) where
+  pub position-low : (b : Bool) → t < cond b 1 16 → modulo 28 (signed (bits b) ((x + t * 2 ^ 28) % 2 ^ bits b)) ≡ x
+  unfolding modulo
+  position-low true k = signed-is (λ z. modulo 28 z ≡ x) true _ (omega arith) (λ l. omega arith) (λ l. omega arith)
+  position-low false k = signed-is (λ z. modulo 28 z ≡ x) false _ (omega arith) (λ l. omega arith) (λ l. omega arith)
+
+  pub position-top : (b : Bool) → t < cond b 1 16 → modulo (bits b) (signed (bits b) ((x + t * 2 ^ 28) % 2 ^ bits b)) / 2 ^ 28 ≡ t
+  unfolding modulo
+  position-top true k = signed-is (λ z. modulo 28 z / 2 ^ 28 ≡ t) true _ (omega arith) (λ l. omega arith) (λ l. omega arith)
+  position-top false k = signed-is (λ z. modulo 32 z / 2 ^ 28 ≡ t) false _ (omega arith) (λ l. omega arith) (λ l. omega arith)
+
+pub position-fits : (b : Bool) (n : ℕ) → fits (bits b) (signed (bits b) (n % 2 ^ bits b)) ≡ true
+position-fits true n =
+    signed-is (λ z. fits 28 z ≡ true) true _ (omega arith) (λ l. mag-fits true (pos (n % 2 ^ 28)) l) (λ l. mag-fits true (negsuc (2 ^ 28 - suc (n % 2 ^ 28))) (omega arith))
+position-fits false n =
+    signed-is (λ z. fits 32 z ≡ true) false _ (omega arith) (λ l. mag-fits false (pos (n % 2 ^ 32)) l) (λ l. mag-fits false (negsuc (2 ^ 32 - suc (n % 2 ^ 32))) (omega arith))
+
+-- the tops of three positions in one word
+module _ (a b c : ℕ) (h : a < 16) (i : b < 16) (j : c < 16) where
+  pub tops-offset : (a + b * 2 ^ 4 + c * 2 ^ 8) % 2 ^ 4 ≡ a
+  tops-offset = omega arith
+
+  pub tops-lower : (a + b * 2 ^ 4 + c * 2 ^ 8) / 2 ^ 4 % 2 ^ 4 ≡ b
+  tops-lower = omega arith
+
+  pub tops-upper : (a + b * 2 ^ 4 + c * 2 ^ 8) / 2 ^ 8 % 2 ^ 4 ≡ c
+  tops-upper = omega arith
+
+  pub tops-below : a + b * 2 ^ 4 + c * 2 ^ 8 < 2 ^ 12
+  tops-below = omega arith
 
 -- two limits in one word
 module _ (p n : ℕ) (h : torqueOk p ≡ true) where

@@ -1,4 +1,5 @@
 pub mod Words
 pub mod Bits
 pub mod Shifts
+pub mod Spelled
 pub mod Widths

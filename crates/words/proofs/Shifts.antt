@@ -2,6 +2,7 @@
 -- Assumes nothing.
 use Prim.Native.Nat.{ℕ, _*_, _/_, _%_, _^_, _≤_, _<_}
 use mathlib.Core.Path.{_≡_, ap}
+use mathlib.Core.Bool.{true}
 use native.Mathlib.Nat.{div-lt-iff-lt-mul}
 use native.Mathlib.Omega.{arith}
 use borrow.Author.Tests.{lt-ltb, le-ltb}
@@ -18,7 +19,7 @@ use Rattle.words.proofs.Bits.{signed-is}
 -- by 36 places of 64: the low 28 bits
 pub shifted : (n : ℕ) → shrZ (toZ w64 (n * 2 ^ 36 % 2 ^ 64)) (2 ^ 36) ≡ signed 28 (n % 2 ^ 28)
 shifted n =
-    signed-is (λ z. shrZ (toZ w64 (n * 2 ^ 36 % 2 ^ 64)) (2 ^ 36) ≡ z) (n % 2 ^ 28) (omega arith)
+    signed-is (λ z. shrZ (toZ w64 (n * 2 ^ 36 % 2 ^ 64)) (2 ^ 36) ≡ z) true (n % 2 ^ 28) (omega arith)
     (λ h. simp (lt-ltb (n * 2 ^ 36 % 2 ^ 64) (2 ^ 63) (omega arith)) (ap pos (omega arith)))
     (λ h. simp (le-ltb (n * 2 ^ 36 % 2 ^ 64) (2 ^ 63) (omega arith)) (ap negsuc (omega arith)))
 

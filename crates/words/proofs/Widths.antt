@@ -11,9 +11,10 @@ use Rattle.settings.specs.declared.Settings.{Settings}
 use Rattle.counts.specs.Between.{between}
 use Rattle.ranges.specs.Range.{methodOk, optionOk}
 use Rattle.settings.specs.Ranges.{inRange}
+use Rattle.layouts.specs.Layout.{isLayout}
 use Rattle.settings.proofs.Within.{within, both}
-use Rattle.words.specs.Encode.{valuesOf, below}
-use Rattle.words.proofs.Bits.{modulo-below, set-below}
+use Rattle.words.specs.Encode.{topOf, topsOf, valuesOf, below}
+use Rattle.words.proofs.Bits.{low-below, top-below, small, tops-below, set-below}
 
 -- each is below 2 ^ 28
 abbrev pub Below : List ℕ → Type 0
@@ -45,12 +46,18 @@ method-below m =
 option-below : (x : ℕ) → optionOk x ≡ true → x < 2 ^ 28
 option-below x e = either-below (eqb x 2) (eqb x 6) (λ h. omega (arith, eqb-true x 2 h)) (λ h. omega (arith, eqb-true x 6 h)) e
 
-module _ (s : Settings) (e : inRange s ≡ true) where
-  pub values-below : Below (valuesOf s)
+module _ (l : ℕ) (s : Settings) where
+  pub tops-small : topsOf l s < 2 ^ 12
+  tops-small =
+      let b = eqb l 1 in
+      tops-below (topOf l (s .offset)) (topOf l (s .lower)) (topOf l (s .upper)) (small b (top-below b (s .offset))) (small b (top-below b (s .lower)))
+      (small b (top-below b (s .upper)))
+
+  pub values-below : isLayout l ≡ true → inRange s ≡ true → Below (valuesOf l s)
   unfolding valuesOf
-  values-below =
+  values-below k e =
       let w = within s e in (
-        omega arith,
+        omega (arith, top 1 2 l k),
         (
           method-below (s .method) (w .method),
           (
@@ -58,15 +65,15 @@ module _ (s : Settings) (e : inRange s ≡ true) where
             (
               omega (arith, top 1 (2 ^ 28 - 1) (s .slow) (w .slow)),
               (
-                modulo-below (s .offset),
+                low-below (s .offset),
                 (
                   omega (arith, top 1 (2 ^ 20) (s .numerator) (w .numerator)),
                   (
                     omega (arith, top 1 (2 ^ 20) (s .denominator) (w .denominator)),
                     (
-                      modulo-below (s .lower),
+                      low-below (s .lower),
                       (
-                        modulo-below (s .upper),
+                        low-below (s .upper),
                         (
                           omega (arith, leb-true (s .maximum) 3000 (w .maximum)),
                           (
@@ -77,7 +84,10 @@ module _ (s : Settings) (e : inRange s ≡ true) where
                                 option-below (s .option) (w .option),
                                 (
                                   omega (arith, top 1 (2 ^ 24) (s .rated) (w .rated)),
-                                  tt,
+                                  (
+                                    omega (arith, tops-small),
+                                    tt,
+                                  ),
                                 ),
                               ),
                             ),

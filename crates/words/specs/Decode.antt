@@ -1,30 +1,46 @@
--- 01, "The sheet": the settings that the data of kinds 0 to 13 carry.
+-- 01, "The sheet", and 02, (iv): the settings that the data of kinds 0 to 14 carry; kind 0 tells the layout.
 -- Assumes nothing.
-use Prim.Native.Nat.{ℕ, _/_, _%_, _^_}
+use Prim.Native.Nat.{ℕ, _+_, _*_, _/_, _%_, _^_}
 use mathlib.Core.List.{List}
 use lib.IntN.{ℤ}
 use lib.ListN.{getD}
 use Rattle.counts.specs.Wrap.{signed}
 use Rattle.settings.specs.declared.Settings.{Settings}
+use Rattle.layouts.specs.Layout.{width}
 
 abbrev pub at : List ℕ → ℕ → ℕ
 at d kind = getD d kind 0
 
--- "two's complement over 28 bits"; % 2 ^ 28 is a guard, since data that a word carried is below it
-abbrev pub positionAt : List ℕ → ℕ → ℤ
-positionAt d kind = signed 28 (at d kind % 2 ^ 28)
+abbrev pub layoutOf : List ℕ → ℕ
+layoutOf d = at d 0
 
-unfoldable pub settingsOf : List ℕ → Settings
-settingsOf d =
+-- kind 14's four bits for offset, lower and upper stop
+abbrev pub offsetTop : List ℕ → ℕ
+offsetTop d = at d 14 % 2 ^ 4
+
+abbrev pub lowerTop : List ℕ → ℕ
+lowerTop d = at d 14 / 2 ^ 4 % 2 ^ 4
+
+abbrev pub upperTop : List ℕ → ℕ
+upperTop d = at d 14 / 2 ^ 8 % 2 ^ 4
+
+-- two's complement over the bits that the layout has: the low 28, and in layout 2 the top four. % 2 ^ width is a guard: on what words carry
+-- it changes nothing
+unfoldable pub positionOf : ℕ → ℕ → ℕ → ℤ
+positionOf layout low top = signed (width layout) ((low + top * 2 ^ 28) % 2 ^ width layout)
+
+-- with offset and stops given, all else from the data
+abbrev pub settingsFrom : ℤ → ℤ → ℤ → List ℕ → Settings
+settingsFrom offset lower upper d =
     record {
       method = at d 1;
       fast = at d 2;
       slow = at d 3;
-      offset = positionAt d 4;
+      offset = offset;
       numerator = at d 5;
       denominator = at d 6;
-      lower = positionAt d 7;
-      upper = positionAt d 8;
+      lower = lower;
+      upper = upper;
       maximum = at d 9;
       positive1 = at d 10 % 2 ^ 14;
       negative1 = at d 10 / 2 ^ 14;
@@ -33,3 +49,11 @@ settingsOf d =
       option = at d 12;
       rated = at d 13;
     }
+
+unfoldable pub settingsOf : List ℕ → Settings
+settingsOf d =
+    settingsFrom
+    (positionOf (layoutOf d) (at d 4) (offsetTop d))
+    (positionOf (layoutOf d) (at d 7) (lowerTop d))
+    (positionOf (layoutOf d) (at d 8) (upperTop d))
+    d

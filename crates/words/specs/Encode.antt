@@ -1,33 +1,48 @@
--- 01, "The sheet": the fifteen words of settings.
+-- 01, "The sheet", and 02, (iv): the words of settings in a layout.
+-- Data is fifteen values in every layout, those of kinds 0 to 14; one that a layout does not send is 0, and so adds nothing to the sum.
 -- Assumes nothing.
-use Prim.Native.Nat.{ℕ, _+_, _*_, _%_, _^_, _<_}
+use Prim.Native.Nat.{ℕ, _+_, _*_, _/_, _%_, _^_, _<_}
 use mathlib.Core.List.{List, [], _∷_, _++_}
-use lib.ListN.{getD}
+use lib.IntN.{ℤ}
+use lib.ListN.{getD, take}
 use Rattle.counts.specs.Wrap.{modulo}
 use Rattle.settings.specs.declared.Settings.{Settings}
+use Rattle.layouts.specs.Layout.{width, size}
 use Rattle.words.specs.Word.{packed}
 
 -- a limit set in one word: positive limit in the low 14 bits, negative in the high 14
 abbrev pub limitSet : ℕ → ℕ → ℕ
 limitSet positive negative = negative * 2 ^ 14 + positive
 
--- the data of kinds 0 to 13
-unfoldable pub valuesOf : Settings → List ℕ
-valuesOf s =
-    1
+-- of offset and stops, a word of their own has the low 28 bits; above these are "the top four bits" in layout 2, and none in layout 1
+abbrev pub lowOf : ℤ → ℕ
+lowOf z = modulo 28 z
+
+abbrev pub topOf : ℕ → ℤ → ℕ
+topOf layout z = modulo (width layout) z / 2 ^ 28
+
+-- kind 14: "bits 0 to 3, 4 to 7 and 8 to 11 carry the top four bits of offset, lower and upper stop"
+abbrev pub topsOf : ℕ → Settings → ℕ
+topsOf layout s = topOf layout (s .offset) + topOf layout (s .lower) * 2 ^ 4 + topOf layout (s .upper) * 2 ^ 8
+
+-- the data of kinds 0 to 14
+unfoldable pub valuesOf : ℕ → Settings → List ℕ
+valuesOf layout s =
+    layout
     ∷ s .method
     ∷ s .fast
     ∷ s .slow
-    ∷ modulo 28 (s .offset)
+    ∷ lowOf (s .offset)
     ∷ s .numerator
     ∷ s .denominator
-    ∷ modulo 28 (s .lower)
-    ∷ modulo 28 (s .upper)
+    ∷ lowOf (s .lower)
+    ∷ lowOf (s .upper)
     ∷ s .maximum
     ∷ limitSet (s .positive1) (s .negative1)
     ∷ limitSet (s .positive2) (s .negative2)
     ∷ s .option
     ∷ s .rated
+    ∷ topsOf layout s
     ∷ []
 
 -- each fits a word's data
@@ -38,7 +53,7 @@ unfoldable pub total : List ℕ → ℕ
 total [] = 0
 total (x ∷ xs) = x + total xs
 
--- "The end's data is the sum of the fourteen earlier data fields, modulo 2^28."
+-- "The end's data is the sum of the fourteen earlier data fields, modulo 2^28"; 02, (iv): "The sum includes kind 14"
 unfoldable pub checksumOf : List ℕ → ℕ
 checksumOf d = total d % 2 ^ 28
 
@@ -51,5 +66,9 @@ wordsFrom kind (x ∷ xs) = packed kind x ∷ wordsFrom (kind + 1) xs
 abbrev pub sealed : List ℕ → List ℕ
 sealed d = wordsFrom 0 d ++ (packed 15 (checksumOf d) ∷ [])
 
-unfoldable pub wordsOf : Settings → List ℕ
-wordsOf s = sealed (valuesOf s)
+-- the values that a layout sends
+abbrev pub sent : ℕ → Settings → List ℕ
+sent layout s = take (size layout) (valuesOf layout s)
+
+unfoldable pub wordsOf : ℕ → Settings → List ℕ
+wordsOf layout s = sealed (sent layout s)

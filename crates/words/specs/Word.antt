@@ -1,7 +1,7 @@
 -- 01, "The sheet": a settings word. "The top 4 bits are the kind, the low 28 the data."
 -- Assumes nothing.
 use Prim.Native.Nat.{ℕ, _+_, _*_, _/_, _%_, _^_}
-use mathlib.Core.Bool.{Bool, true, false, _&&_}
+use mathlib.Core.Bool.{Bool, true, false, cond, _&&_}
 use mathlib.Core.List.{List, [], _∷_}
 use lib.Dec.{eqb}
 
@@ -21,3 +21,12 @@ sameWords [] [] = true
 sameWords [] (y ∷ ys) = false
 sameWords (x ∷ xs) [] = false
 sameWords (x ∷ xs) (y ∷ ys) = eqb x y && sameWords xs ys
+
+abbrev pub orElse : List ℕ → List ℕ → List ℕ
+orElse [] ys = ys
+orElse (x ∷ xs) ys = x ∷ xs
+
+-- the words from the latest start word on, accepted or not; [] where there is none
+unfoldable pub latest : List ℕ → List ℕ
+latest [] = []
+latest (w ∷ ws) = orElse (latest ws) (cond (eqb (kindOf w) 0) (w ∷ ws) [])

@@ -2,23 +2,33 @@
 use settings::Settings;
 ghost use mathlib.Core.Path.{_≡_};
 ghost use Prim.Native.Nat.{_%_, _^_};
+ghost use mathlib.Core.List.{[], _∷_, _++_};
 ghost use Rattle.counts.specs.Wrap.{signed};
-ghost use Rattle.words.specs.Decode.{settingsOf};
+ghost use Rattle.words.specs.Decode.{positionOf, settingsFrom, settingsOf};
 
 // The low 28 bits, read as signed. Of the two shifts, the one down keeps the sign.
-fn position(value: u32) -> i32
-    ensures { λ r. ⌜ r ≡ signed 28 (value % 2 ^ 28) ⌝ }
+fn short_position(low: u32) -> i32
+    ensures { λ r. ⌜ r ≡ signed 28 (low % 2 ^ 28) ⌝ }
 {
-    (((value as i64) << 36) >> 36) as i32
+    (((low as i64) << 36) >> 36) as i32
 }
 
-// The settings that the values of kinds 0 to 13 carry.
-pub fn decode(values: [u32; 14]) -> Settings
-    ensures { λ r. ⌜ r ≡ settingsOf values ⌝ }
+// A position from the low 28 bits and the top ones, which layout 1 does not have.
+fn position(layout: u32, low: u32, top: u32) -> i32
+    ensures { λ r. ⌜ r ≡ positionOf layout low top ⌝ }
 {
-    let offset = position(values[4]);
-    let lower = position(values[7]);
-    let upper = position(values[8]);
+    if layout == 1 {
+        short_position(low)
+    } else {
+        let bits = low as u64 + top as u64 * 0x10000000;
+        counts::wrap(bits as i64)
+    }
+}
+
+// The settings that the values carry, but for offset and position limits, which are given.
+pub fn decode_with(offset: i32, lower: i32, upper: i32, values: [u32; 14]) -> Settings
+    ensures { λ r. ⌜ r ≡ settingsFrom offset lower upper values ⌝ }
+{
     Settings {
         method: values[1],
         fast: values[2],
@@ -36,4 +46,15 @@ pub fn decode(values: [u32; 14]) -> Settings
         option: values[12],
         rated: values[13],
     }
+}
+
+// The settings that the values of kinds 0 to 13 carry, and kind 14's.
+pub fn decode(values: [u32; 14], tops: u32) -> Settings
+    ensures { λ r. ⌜ r ≡ settingsOf (values ++ tops ∷ []) ⌝ }
+{
+    let layout = values[0];
+    let offset = position(layout, values[4], tops % 0x10);
+    let lower = position(layout, values[7], tops / 0x10 % 0x10);
+    let upper = position(layout, values[8], tops / 0x100 % 0x10);
+    decode_with(offset, lower, upper, values)
 }

@@ -4,21 +4,41 @@ use settings::Settings;
 use settings::Verdict;
 use words::KIND;
 ghost use mathlib.Core.Path.{_≡_};
-ghost use Prim.Native.Nat.{_≤_};
+ghost use Prim.Native.Nat.{_+_, _≤_, _<_};
 ghost use mathlib.Core.Bool.{true};
 ghost use mathlib.Core.List.{_++_};
-ghost use lib.ListN.{length, drop};
-ghost use Rattle.counts.specs.Wrap.{modulo};
+ghost use lib.ListN.{length, take, drop};
 ghost use Rattle.ranges.specs.Range.{torqueOk};
 ghost use Rattle.settings.specs.Ranges.{inRange};
-ghost use Rattle.words.specs.Encode.{limitSet, valuesOf, below, sealed};
+ghost use Rattle.words.specs.Encode.{limitSet, lowOf, topOf, topsOf, valuesOf, below, sealed};
 ghost use Rattle.writer.specs.Write.{writeVerdict, written};
 
 // The low 28 bits of a position.
 fn low(position: i32) -> u32
-    ensures { λ r. ⌜ r ≡ modulo 28 position ⌝ }
+    ensures { λ r. ⌜ r ≡ lowOf position ⌝ }
 {
     counts::pattern(position) % KIND
+}
+
+// The bits above those, which layout 1 does not have.
+fn top(layout: u32, position: i32) -> u32
+    ensures { λ r. ⌜ r ≡ topOf layout position ⌝ }
+{
+    if layout == 1 {
+        0
+    } else {
+        counts::pattern(position) / KIND
+    }
+}
+
+// These bits of offset and position limits in one word's data.
+fn tops(layout: u32, s: Settings) -> u32
+    ensures { λ r. ⌜ r ≡ topsOf layout s ⌝ }
+{
+    let offset = top(layout, s.offset);
+    let lower = top(layout, s.lower);
+    let upper = top(layout, s.upper);
+    offset + lower * 0x10 + upper * 0x100
 }
 
 // A limit set in one word's data.
@@ -29,18 +49,19 @@ fn limit_pair(positive: u32, negative: u32) -> u32
     negative * 0x4000 + positive
 }
 
-// The data of kinds 0 to 13.
-fn values(s: Settings) -> [u32; 14]
+// The data of kinds 0 to 14.
+fn values(layout: u32, s: Settings) -> [u32; 15]
     requires { ⌜ inRange s ≡ true ⌝ }
-    ensures { λ r. ⌜ r ≡ valuesOf s ⌝ }
+    ensures { λ r. ⌜ r ≡ valuesOf layout s ⌝ }
 {
     let offset = low(s.offset);
     let lower = low(s.lower);
     let upper = low(s.upper);
     let set1 = limit_pair(s.positive1, s.negative1);
     let set2 = limit_pair(s.positive2, s.negative2);
+    let tops = tops(layout, s);
     [
-        1,
+        layout,
         s.method,
         s.fast,
         s.slow,
@@ -54,37 +75,46 @@ fn values(s: Settings) -> [u32; 14]
         set2,
         s.option,
         s.rated,
+        tops,
     ]
 }
 
-// Writes settings as fifteen words to the front of the buffer.
-pub fn write(s: Settings, buffer: &mut [u32]) -> Verdict
-    ensures { λ r. ⌜ (r ≡ writeVerdict s (now (buffer .entry))) × (now (buffer .exit) ≡ written s (now (buffer .entry))) ⌝ }
+// Writes settings as the words of a layout to the front of the buffer.
+pub fn write(layout: u32, s: Settings, buffer: &mut [u32]) -> Verdict
+    ensures verdict { λ r. ⌜ r ≡ writeVerdict layout s (now (buffer .entry)) ⌝ }
+    ensures words { λ _. ⌜ now (buffer .exit) ≡ written layout s (now (buffer .entry)) ⌝ }
 {
-    if buffer.len() < 15 {
+    if !layouts::is_layout(layout) {
+        return Verdict::Refused(Refusal::UnknownLayout);
+    }
+    let size = layouts::size(layout) as usize;
+    if buffer.len() <= size {
         return Verdict::Refused(Refusal::BufferTooShort);
+    }
+    if layouts::is_long(layout, s) {
+        return Verdict::Refused(Refusal::LongValue);
     }
     let verdict = checks::check(s);
     match verdict {
         Verdict::Refused(refusal) => Verdict::Refused(refusal),
         Verdict::Accepted => {
-            let data = values(s);
-            fill(data, buffer);
+            let data = values(layout, s);
+            fill(size, data, buffer);
             Verdict::Accepted
         }
     }
 }
 
-// The data as words of rising kinds, and the end word with their sum.
-fn fill(values: [u32; 14], buffer: &mut [u32])
-    requires { ⌜ (15 ≤ length (now buffer)) × below values ⌝ }
-    ensures { λ _. ⌜ now (buffer .exit) ≡ sealed values ++ drop 15 (now (buffer .entry)) ⌝ }
+// So much of the data as words of rising kinds, and the end word with their sum.
+fn fill(size: usize, values: [u32; 15], buffer: &mut [u32])
+    requires { ⌜ (size ≤ 15) × (size < length (now buffer)) × below values ⌝ }
+    ensures { λ _. ⌜ now (buffer .exit) ≡ sealed (take size values) ++ drop (size + 1) (now (buffer .entry)) ⌝ }
 {
     let mut sum: u32 = 0;
-    for i in 0..14 {
+    for i in 0..size {
         let x = values[i];
         buffer[i] = (i as u32) * KIND + x;
         sum = (sum + x) % KIND;
     }
-    buffer[14] = 0xF0000000 + sum;
+    buffer[size] = 0xF0000000 + sum;
 }

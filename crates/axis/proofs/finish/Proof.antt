@@ -1,7 +1,7 @@
 -- `axis::finish` meets its contract.
 -- Assumes nothing.
 use mathlib.Core.Path.{_∙_}
-use Rattle.axis.proofs.Taking.{complete-end, refused-end}
+use Rattle.axis.proofs.Taking.{rebuilt, refused-end, complete-end}
 use borrow.Author.Needs.{needs}
 use Rattle.axis.proofs.finish.Statement.{statement}
 use Rattle.axis.proofs.finish.Tie as tie
@@ -22,7 +22,10 @@ enum-told : tie.Need-enum-told
 enum-told c = search needs
 
 complete-requires : tie.Need-complete-requires
-complete-requires c κs = search needs
+complete-requires c κs =
+    let e = c .before .before .before in
+    let v = e .before .before .before .before .before in
+    rebuilt (v .before .before .args .axis .now) _ _ (v .pending-settings .ensures) (e .empty .ensures)
 
 enum-known-verdict : tie.Need-enum-known-verdict
 enum-known-verdict c = search needs
@@ -36,13 +39,15 @@ returns c =
     let b = v .before .before in
     complete-end
     (b .args .axis .now)
+    (b .args .sum)
+    (v .pending-settings .result)
+    (q .close .result)
+    (b .pre)
+    (v .pending-settings .ensures)
+    (q .close .ensures ∙ rw (k .checksum .ensures))
     (e .empty .last .0)
     (c .complete .last .0)
-    (b .args .sum)
-    (q .close .result)
     (c .complete .result)
-    (b .pre)
-    (q .close .ensures ∙ rw (v .pending-settings .ensures, k .checksum .ensures))
     (c .before .before .enum-told .given .1)
     (e .empty .ensures)
     (c .complete .ensures)
@@ -56,12 +61,14 @@ returns-2 c =
     let b = v .before .before in
     refused-end
     (b .args .axis .now)
-    (e .empty .last .0)
     (b .args .sum)
+    (v .pending-settings .result)
     (q .close .result)
-    _
     (b .pre)
-    (q .close .ensures ∙ rw (v .pending-settings .ensures, k .checksum .ensures))
+    (v .pending-settings .ensures)
+    (q .close .ensures ∙ rw (k .checksum .ensures))
+    (e .empty .last .0)
+    _
     (c .before .verdict .given .1)
     (e .empty .ensures)
 

@@ -22,7 +22,7 @@ returns : tie.Need-returns
 unfolding startRead
 returns c =
     let t = c .before .before in
-    rw (sym (t .before .field-ok .ensures) ∙ t .if1 .taken) (kept-word _ _ false started (c .begin .ensures))
+    rw (sym (t .before .field-ok .ensures) ∙ t .if1 .taken) (kept-word _ _ false (started _) (c .begin .ensures))
 
 returns-2 : tie.Need-returns-2
 unfolding startRead

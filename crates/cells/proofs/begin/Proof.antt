@@ -15,7 +15,7 @@ element-write-axis-2 : tie.Need-element-write-axis-2
 element-write-axis-2 c = search needs
 
 returns : tie.Need-returns
-returns c = begun _ (c .lent .ensures)
+returns c = begun _ (c .lent .ensures) _
 
 pub begin-spec : {M : Type 1} → statement M
 begin-spec = tie.close (tie.spec lent-requires element-write-axis element-write-axis-2 returns)

@@ -10,6 +10,9 @@ use borrow.Author.Needs.{needs}
 use Rattle.kinds.proofs.field_ok.Statement.{statement}
 use Rattle.kinds.proofs.field_ok.Tie as tie
 
+is-layout-requires : tie.Need-is-layout-requires
+is-layout-requires c κs = search needs
+
 method-ok-requires : tie.Need-method-ok-requires
 method-ok-requires c κs = search needs
 
@@ -42,7 +45,7 @@ rated-ok-requires c κs = search needs
 
 returns : tie.Need-returns
 unfolding fieldOk
-returns c = rw (c .match .keys1)
+returns c = rw (c .before .match .keys1, c .is-layout .ensures)
 
 returns-2 : tie.Need-returns-2
 unfolding fieldOk
@@ -96,19 +99,24 @@ returns-14 : tie.Need-returns-14
 unfolding fieldOk
 returns-14 c = rw (c .before .match .keys14, c .rated-ok .ensures)
 
+returns-15 : tie.Need-returns-15
+unfolding fieldOk
+returns-15 c = rw (c .match .keys15)
+
 -- past the table
-past : (kind x : ℕ) → 14 ≤ kind → fieldOk kind x ≡ false
+past : (kind x : ℕ) → 15 ≤ kind → fieldOk kind x ≡ false
 unfolding fieldOk
 past kind x h = ap (λ (f : ℕ → Bool). f x) (List·getD-eq-default fields (λ y. false) h)
 
-returns-15 : tie.Need-returns-15
+returns-16 : tie.Need-returns-16
 unfolding Avoids
-returns-15 c = sym (past (c .before .args .kind) (c .before .args .value) (avoided 14 (c .before .args .kind) (c .match .rest)))
+returns-16 c = sym (past (c .before .args .kind) (c .before .args .value) (avoided 15 (c .before .args .kind) (c .match .rest)))
 
 pub field-ok-spec : {M : Type 1} → statement M
 field-ok-spec =
     tie.close
     (tie.spec
+    is-layout-requires
     method-ok-requires
     speed-ok-requires
     speed-ok-requires-2
@@ -133,4 +141,5 @@ field-ok-spec =
     returns-12
     returns-13
     returns-14
-    returns-15)
+    returns-15
+    returns-16)

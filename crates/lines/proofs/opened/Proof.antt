@@ -17,8 +17,11 @@ one-tick-requires c κs = search needs
 one-sheet-requires : tie.Need-one-sheet-requires
 one-sheet-requires c κs = search needs
 
-fresh-requires : tie.Need-fresh-requires
-fresh-requires c κs = search needs
+one-layout-requires : tie.Need-one-layout-requires
+one-layout-requires c κs = search needs
+
+ended-requires : tie.Need-ended-requires
+ended-requires c κs = search needs
 
 lost-requires : tie.Need-lost-requires
 lost-requires c κs = search needs
@@ -33,10 +36,13 @@ returns-3 : tie.Need-returns-3
 returns-3 c = rw (c .before .match .keys3, c .one-sheet .ensures)
 
 returns-4 : tie.Need-returns-4
-returns-4 c = rw (c .before .match .keys4, c .fresh .ensures)
+returns-4 c = rw (c .before .match .keys4, c .one-layout .ensures)
 
 returns-5 : tie.Need-returns-5
-returns-5 c =
+returns-5 c = rw (c .before .match .keys5, c .ended .ensures)
+
+returns-6 : tie.Need-returns-6
+returns-6 c =
     let a = c .before .before .before .args in
     c .lost .ensures ∙ no-row (lostAt (a .unread)) (openings (a .text .now) (a .next)) (a .number) (omega arith)
 
@@ -47,10 +53,12 @@ opened-spec =
     settings-word-requires
     one-tick-requires
     one-sheet-requires
-    fresh-requires
+    one-layout-requires
+    ended-requires
     lost-requires
     returns
     returns-2
     returns-3
     returns-4
-    returns-5)
+    returns-5
+    returns-6)

@@ -1,7 +1,7 @@
 -- `writer::values` meets its contract.
 -- Assumes nothing.
-use Rattle.words.proofs.Bits.{position-fits}
 use mir.Facts.{toZ-ofZ}
+use Rattle.counts.proofs.Fits.{fits-i32}
 use Rattle.settings.proofs.Within.{within}
 use Rattle.words.specs.Encode.{valuesOf}
 use borrow.Author.Needs.{needs}
@@ -29,10 +29,14 @@ limit-pair-requires-2 c κs =
     let w = within (b .args .s) (b .pre) in
     search needs
 
+tops-requires : tie.Need-tops-requires
+tops-requires c κs = search needs
+
 returns : tie.Need-returns
 unfolding valuesOf
 returns c =
-    let t = c .before .before in
+    let p = c .before in
+    let t = p .before .before in
     let m = t .before .before in
     let f = m .before .before in
     let b = f .before .before in
@@ -42,20 +46,15 @@ returns c =
       f .low .ensures,
       m .low2 .ensures,
       t .low3 .ensures,
-      c .before .limit-pair .ensures,
-      c .limit-pair2 .ensures,
-      toZ-ofZ (position-fits (s .offset) (w .offset)),
-      toZ-ofZ (position-fits (s .lower) (w .lower)),
-      toZ-ofZ (position-fits (s .upper) (w .upper)),
+      p .before .limit-pair .ensures,
+      p .limit-pair2 .ensures,
+      c .tops .ensures,
+      toZ-ofZ (fits-i32 (s .offset) (w .offset)),
+      toZ-ofZ (fits-i32 (s .lower) (w .lower)),
+      toZ-ofZ (fits-i32 (s .upper) (w .upper)),
     )
 
 pub values-spec : {M : Type 1} → statement M
 values-spec =
     tie.close
-    (tie.spec
-    low-requires
-    low-requires-2
-    low-requires-3
-    limit-pair-requires
-    limit-pair-requires-2
-    returns)
+    (tie.spec low-requires low-requires-2 low-requires-3 limit-pair-requires limit-pair-requires-2 tops-requires returns)

@@ -4,8 +4,10 @@ use mathlib.Core.Path.{subst, sym, ap, _∙_}
 use mathlib.Core.Bool.{Bool, not, _&&_}
 use lib.IntN.{ℤ}
 use mir.Facts.{toZ-ofZ}
+use Rattle.settings.specs.declared.Settings.{Settings}
+use Rattle.legs.specs.Numbers.{legFrom}
 use Rattle.homing.specs.Phase.{phaseOf}
-use Rattle.speed.specs.Speed.{movingSpeed}
+use Rattle.speed.specs.Speed.{legSpeed, movingSpeed}
 use Rattle.cells.specs.Cells.{settingsIn, motionIn}
 use Rattle.cells.specs.Writes.{Moved}
 use Rattle.axis.specs.Calls.{arrived}
@@ -42,8 +44,10 @@ returns c =
     let x = w .before .before .args in
     let e = ap (λ (r : Bool). r && not (x .halted)) (sym (i .is-running .ensures)) ∙ t .if1 .taken in (
       written w,
-      read32 (c .speed-in .result) (c .speed-in .ok) ∙ c .speed-in .ensures ∙ rw (settings-moved (w .put-stand .ensures))
-          (sym (ap (movingSpeed (settingsIn (x .axis .now))) (moving (x .phase) (x .halted) e))),
+      read32 (c .speed-in .result) (c .speed-in .ok)
+          ∙ c .speed-in .ensures
+          ∙ ap (λ (s : Settings). legSpeed s (legFrom (x .phase))) (settings-moved (w .put-stand .ensures))
+          ∙ sym (ap (movingSpeed (settingsIn (x .axis .now))) (moving (x .phase) (x .halted) e)),
     )
 
 returns-2 : tie.Need-returns-2

@@ -8,20 +8,21 @@ use borrow.Author.Tests.{lt-ltb, le-ltb}
 use mir.Facts.{toZ-pos}
 use mir.Syntax.{w32}
 use Rattle.counts.specs.Divide.{floorDiv}
-use Rattle.gears.specs.Narrow.{fits32, narrowed}
+use Rattle.counts.specs.Fits.{fits}
+use Rattle.gears.specs.Narrow.{narrowed}
 use borrow.Author.Needs.{needs}
 use Rattle.gears.proofs.narrow.above.Statement.{statement}
 use Rattle.gears.proofs.narrow.above.Tie as tie
 
 returns : tie.Need-returns
-unfolding narrowed fits32
+unfolding narrowed fits
 returns c = rw (le-ltb (c .before .args .units) (2 ^ 31) (omega arith))
 
 product-requires : tie.Need-product-requires
 product-requires c κs = search needs
 
 returns-2 : tie.Need-returns-2
-unfolding narrowed fits32
+unfolding narrowed fits
 returns-2 c =
     let s = c .before .before .before .args in
     rw (lt-ltb (s .units) (2 ^ 31) (omega arith), le-ltb (s .units * s .numerator) (2 ^ 31) (omega arith))
@@ -38,7 +39,7 @@ cast-t8 c =
     omega (arith, div-le-self p (c .before .divisor .result))
 
 returns-3 : tie.Need-returns-3
-unfolding narrowed fits32 floorDiv
+unfolding narrowed fits floorDiv
 returns-3 c =
     let p = c .before .before .before .product in
     let s = c .before .before .before .before .before .args in

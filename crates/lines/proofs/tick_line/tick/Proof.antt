@@ -35,14 +35,11 @@ hexadecimal8-requires c κs = search needs
 cast-t21 : tie.Need-cast-t21
 cast-t21 c = record { fits = c .before .before .before .before .before .before .before .before .before .before .before .before .before .before .before .before .hexadecimal4 .ensures .1 }
 
-end-requires : tie.Need-end-requires
-end-requires c κs = search needs
-
 returns : tie.Need-returns
 unfolding tickRead
 returns c =
-    let p : SFits w32 (c .before .before .before .before .before .before .before .before .before .before .before .before .before .whole32 .result .value) = search needs in
-    let alarm = c .before .before .before .before in
+    let p : SFits w32 (c .before .before .before .before .before .before .before .before .before .before .before .before .whole32 .result .value) = search needs in
+    let alarm = c .before .before .before in
     let set = alarm .before .before in
     let still = set .before .before in
     let switches = still .before .before .before in
@@ -52,7 +49,6 @@ returns c =
     let control = asked .before .before in
     rw (
       toZ-ofZ p,
-      c .end .ensures,
       alarm .hexadecimal8 .ensures,
       set .set .ensures,
       still .standstill .ensures,
@@ -76,5 +72,4 @@ tick-spec =
     set-requires
     hexadecimal8-requires
     cast-t21
-    end-requires
     returns)

@@ -34,11 +34,23 @@ tick-requires c κs = search needs
 enum-known-line-3 : tie.Need-enum-known-line-3
 enum-known-line-3 c = search needs
 
+slice-aggregate-write : tie.Need-slice-aggregate-write
+slice-aggregate-write c = search needs
+
 write-requires : tie.Need-write-requires
 write-requires c κs = search needs
 
 enum-known-line-4 : tie.Need-enum-known-line-4
 enum-known-line-4 c = search needs
+
+slice-aggregate-write-2 : tie.Need-slice-aggregate-write-2
+slice-aggregate-write-2 c = search needs
+
+write-requires-2 : tie.Need-write-requires-2
+write-requires-2 c κs = search needs
+
+enum-known-line-5 : tie.Need-enum-known-line-5
+enum-known-line-5 c = search needs
 
 unreadable-requires : tie.Need-unreadable-requires
 unreadable-requires c κs = search needs
@@ -70,13 +82,19 @@ same-length-4 : tie.Need-same-length-4
 same-length-4 c = search needs
 
 returns-5 : tie.Need-returns-5
-returns-5 c = let e = c .before .before .before .before .before .line3 .given .1 in (rw e, printed-as (rw e) (c .before .before .write .ensures))
+returns-5 c = let e = c .before .before .before .before .before .before .line3 .given .1 in (rw e, printed-as (rw e) (c .before .before .write .ensures))
 
 same-length-5 : tie.Need-same-length-5
 same-length-5 c = search needs
 
 returns-6 : tie.Need-returns-6
-returns-6 c = let e = c .before .before .before .before .before .line4 .given .1 in (rw e, printed-as (rw e) (c .before .before .unreadable .ensures))
+returns-6 c = let e = c .before .before .before .before .before .before .line4 .given .1 in (rw e, printed-as (rw e) (c .before .before .write2 .ensures))
+
+same-length-6 : tie.Need-same-length-6
+same-length-6 c = search needs
+
+returns-7 : tie.Need-returns-7
+returns-7 c = let e = c .before .before .before .before .before .line5 .given .1 in (rw e, printed-as (rw e) (c .before .before .unreadable .ensures))
 
 pub act-spec : {M : Type 1} → statement M
 act-spec =
@@ -91,8 +109,12 @@ act-spec =
     enum-known-line-2
     tick-requires
     enum-known-line-3
+    slice-aggregate-write
     write-requires
     enum-known-line-4
+    slice-aggregate-write-2
+    write-requires-2
+    enum-known-line-5
     unreadable-requires
     returns
     same-length
@@ -104,4 +126,6 @@ act-spec =
     same-length-4
     returns-5
     same-length-5
-    returns-6)
+    returns-6
+    same-length-6
+    returns-7)

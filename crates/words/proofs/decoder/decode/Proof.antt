@@ -1,17 +1,21 @@
--- `words::decoder::decode` meets its contract.
+-- `words::decoder::decode` meets its contract: the fourteen values stand before kind 14's.
 -- Assumes nothing.
 use Prim.Native.Nat.{ℕ, _/_, _%_, _^_}
 use mathlib.Core.Path.{_≡_, _∙_}
-use mathlib.Core.List.{List}
+use mathlib.Core.List.{List, [], _∷_, _++_}
 use lib.IntN.{ℤ}
-use Rattle.settings.specs.declared.Settings.{Settings}
+use lib.ListN.{length}
 use mir.Facts.{toZ-ofZ}
 use mir.Syntax.{w32}
 use mir.Val.{SFits}
-use Rattle.words.specs.Decode.{at, positionAt, settingsOf}
+use Rattle.words.specs.Decode.{at, positionOf, settingsFrom, settingsOf}
+use Rattle.words.proofs.Spelled.{spelled, spell}
 use borrow.Author.Needs.{needs}
 use Rattle.words.proofs.decoder.decode.Statement.{statement}
 use Rattle.words.proofs.decoder.decode.Tie as tie
+
+array-read-layout : tie.Need-array-read-layout
+array-read-layout c = search needs
 
 array-read-position : tie.Need-array-read-position
 array-read-position c = search needs
@@ -31,76 +35,41 @@ array-read-position-3 c = search needs
 position-requires-3 : tie.Need-position-requires-3
 position-requires-3 c κs = search needs
 
-array-read-t8 : tie.Need-array-read-t8
-array-read-t8 c = search needs
-
-array-read-t17 : tie.Need-array-read-t17
-array-read-t17 c = search needs
-
-array-read-t20 : tie.Need-array-read-t20
-array-read-t20 c = search needs
-
-array-read-t23 : tie.Need-array-read-t23
-array-read-t23 c = search needs
-
-array-read-t26 : tie.Need-array-read-t26
-array-read-t26 c = search needs
-
-array-read-t29 : tie.Need-array-read-t29
-array-read-t29 c = search needs
-
-array-read-t32 : tie.Need-array-read-t32
-array-read-t32 c = search needs
-
-array-read-t36 : tie.Need-array-read-t36
-array-read-t36 c = search needs
-
-array-read-t40 : tie.Need-array-read-t40
-array-read-t40 c = search needs
-
-array-read-t44 : tie.Need-array-read-t44
-array-read-t44 c = search needs
-
-array-read-t48 : tie.Need-array-read-t48
-array-read-t48 c = search needs
-
-array-read-t51 : tie.Need-array-read-t51
-array-read-t51 c = search needs
+decode-with-requires : tie.Need-decode-with-requires
+decode-with-requires c κs = search needs
 
 -- the three positions decide the rest
-built : (v : List ℕ) {o l u : ℤ} → o ≡ positionAt v 4 → l ≡ positionAt v 7 → u ≡ positionAt v 8
-    → _≡_ {A = Settings} (record { method = at v 1; fast = at v 2; slow = at v 3; offset = o; numerator = at v 5; denominator = at v 6; lower = l; upper = u; maximum = at v 9; positive1 = at v 10 % 2 ^ 14; negative1 = at v 10 / 2 ^ 14; positive2 = at v 11 % 2 ^ 14; negative2 = at v 11 / 2 ^ 14; option = at v 12; rated = at v 13 }) (settingsOf v)
-unfolding settingsOf
-built v p q r = rw (p, q, r)
+built : (v : List ℕ) (tops : ℕ) → length v ≡ 14 → {o l u : ℤ}
+    → o ≡ positionOf (at v 0) (at v 4) (tops % 2 ^ 4)
+    → l ≡ positionOf (at v 0) (at v 7) (tops / 2 ^ 4 % 2 ^ 4)
+    → u ≡ positionOf (at v 0) (at v 8) (tops / 2 ^ 8 % 2 ^ 4)
+    → settingsFrom o l u v ≡ settingsOf (v ++ tops ∷ [])
+unfolding settingsOf spell
+built v tops n p q r = rw (p, q, r, spelled 14 v n)
 
 returns : tie.Need-returns
 returns c =
-    let a = c .before .before in
-    let o : SFits w32 (a .position .result) = search needs in
-    let l : SFits w32 (c .before .position2 .result) = search needs in
-    let u : SFits w32 (c .position3 .result) = search needs in
-    built (a .before .args .t1) (toZ-ofZ o ∙ a .position .ensures) (toZ-ofZ l ∙ c .before .position2 .ensures) (toZ-ofZ u ∙ c .position3 .ensures)
+    let u = c .before in
+    let l = u .before in
+    let o = l .before in
+    let v = o .before .args .t1 in
+    let n : length v ≡ 14 = search needs in
+    let fo : SFits w32 (o .position .result) = search needs in
+    let fl : SFits w32 (l .position2 .result) = search needs in
+    let fu : SFits w32 (u .position3 .result) = search needs in
+    c .decode-with .ensures
+    ∙ built v (o .before .args .tops) n (toZ-ofZ fo ∙ o .position .ensures) (toZ-ofZ fl ∙ l .position2 .ensures) (toZ-ofZ fu ∙ u .position3 .ensures)
 
 pub decode-spec : {M : Type 1} → statement M
 decode-spec =
     tie.close
     (tie.spec
+    array-read-layout
     array-read-position
     position-requires
     array-read-position-2
     position-requires-2
     array-read-position-3
     position-requires-3
-    array-read-t8
-    array-read-t17
-    array-read-t20
-    array-read-t23
-    array-read-t26
-    array-read-t29
-    array-read-t32
-    array-read-t36
-    array-read-t40
-    array-read-t44
-    array-read-t48
-    array-read-t51
+    decode-with-requires
     returns)

@@ -1,0 +1,41 @@
+-- What the writer fills a buffer with is taken over as the settings that it was given: it accepts what may be sent, and its words are theirs.
+-- Assumes nothing.
+use Prim.Native.Nat.{ℕ, _+_, _≤_}
+use mathlib.Core.Path.{_≡_, refl, ap, _∙_}
+use mathlib.Core.Bool.{Bool, true, false, cond, not}
+use mathlib.Core.List.{List}
+use borrow.Author.Tests.{ltb-false}
+use lib.ListN.{length, take, drop}
+use lib.Seq.{take-at}
+use Rattle.settings.specs.declared.Settings.{Settings}
+use Rattle.settings.specs.declared.Refusal.the-variants.{UnknownLayout, BufferTooShort, LongValue}
+use Rattle.settings.specs.declared.Verdict.the-variants.{Accepted, Refused}
+use Rattle.layouts.specs.Layout.{isLayout, longValue}
+use Rattle.checks.specs.Check.{verdictOf}
+use Rattle.checks.proofs.Numbers.{refused-accepted}
+use Rattle.words.specs.Encode.{sent, wordsOf}
+use Rattle.words.proofs.Words.{length-sealed}
+use Rattle.writer.specs.Write.{needed, bufferTooShort, writeVerdict, written}
+use Rattle.writer.proofs.Numbers.{accepts-exactly}
+use Rattle.roundtrip.proofs.Values.{sent-size}
+use Rattle.demands.specs.Whole.{WrittenTrip}
+use Rattle.demands.proofs.Whole.{round-trip}
+
+module _ (layout : ℕ) (s : Settings) (buffer : List ℕ) (v : writeVerdict layout s buffer ≡ Accepted) where
+  long-enough : needed layout ≤ length buffer
+  unfolding writeVerdict
+  long-enough = go (not (isLayout layout)) (bufferTooShort layout buffer) refl v
+    where
+      go : (a b : Bool) → bufferTooShort layout buffer ≡ b
+          → cond a (Refused UnknownLayout) (cond b (Refused BufferTooShort) (cond (longValue layout s) (Refused LongValue) (verdictOf s))) ≡ Accepted → needed layout ≤ length buffer
+      go true b e r = refused-accepted UnknownLayout r
+      go false true e r = refused-accepted BufferTooShort r
+      go false false e r = ltb-false (length buffer) (needed layout) e
+
+  front : take (needed layout) (written layout s buffer) ≡ wordsOf layout s
+  unfolding wordsOf
+  front = rw v (take-at (wordsOf layout s) (drop (needed layout) buffer) (needed layout) (length-sealed (sent layout s) ∙ ap (λ (n : ℕ). n + 1) (sent-size layout s)))
+
+pub written-trip : WrittenTrip
+written-trip a layout s buffer es w v e idle =
+    round-trip a layout s es w (accepts-exactly layout s buffer (long-enough layout s buffer v) .0 v) (e ∙ front layout s buffer v) idle

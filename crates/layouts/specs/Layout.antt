@@ -1,0 +1,28 @@
+-- 02, (iv): the layouts of settings words, and all that sets them apart. A layout's number is the data of its start word.
+-- Assumes nothing.
+use Prim.Native.Nat.{ℕ}
+use mathlib.Core.Bool.{Bool, cond, not, _&&_}
+use lib.Dec.{eqb}
+use Rattle.counts.specs.Between.{between}
+use Rattle.settings.specs.declared.Settings.{Settings}
+use Rattle.settings.specs.Ranges.{positionsFit}
+
+-- "A layout nobody defined is answered with 2": these are defined
+abbrev pub isLayout : ℕ → Bool
+isLayout layout = between 1 2 layout
+
+-- the bits of offset and stops: "two's complement over 28 bits"; of layout 2: "The three values are then 32-bit signed."
+abbrev pub width : ℕ → ℕ
+width layout = cond (eqb layout 1) 28 32
+
+-- how many words come before the end word, one of each kind from 0 on: in layout 2 with "a kind 14 word after kind 13"
+abbrev pub size : ℕ → ℕ
+size layout = cond (eqb layout 1) 14 15
+
+-- a layout holds settings whose offset and stops fit its width
+abbrev pub layoutHolds : ℕ → Settings → Bool
+layoutHolds layout s = positionsFit (width layout) s
+
+-- 10: "layout 1 is asked and the offset or a stop needs more than 28 bits"
+abbrev pub longValue : ℕ → Settings → Bool
+longValue layout s = eqb layout 1 && not (positionsFit 28 s)
