@@ -23,43 +23,50 @@
 extern "C" {
 #endif
 
-#define AXIS_WORDS  37 /* words of an axis */
+#define AXIS_WORDS  38 /* words of an axis */
 #define AXIS_EVENT   7 /* words of a tick's inputs */
 #define AXIS_FLOATS  7 /* floats of a tick's inputs */
 #define AXIS_ANSWER  7 /* words of a tick's answer */
 #define AXIS_FIELDS 15 /* fields of settings, one a word */
-#define AXIS_SETTINGS_WORDS 15 /* words that carry settings to an axis */
+#define AXIS_SETTINGS_WORDS 16 /* words that carry settings to an axis, at most: layout 1 has 15, layout 2 has 16 */
 
 /* Makes the axis fresh, whatever the words held: no settings, drive state Not ready to switch on, homing idle. */
 void axis_fresh(uint32_t axis[AXIS_WORDS]);
 
-/* Takes one settings word: a kind in the top 4 bits, data in the low 28. Kinds come in rising order from the start word (0) to the end word (15),
- * whose data is the sum of all data before it, modulo 2^28; a start word begins afresh at any time. Returns AXIS_ACCEPTED, or the refusal (1 to 7; an
- * end word is tested 1, 4, 5, 6, 7, another 1, then 2 or 3). A refused word empties the unfinished settings, so that they begin again with their
- * first word. An end word that is accepted brings all fields into force together, and the axis is neither homed nor in homing error any more and homing
- * is idle; until then the settings in force stay. */
+/* Takes one settings word: a kind in the top 4 bits, data in the low 28. Kinds come in rising order from the start word (0), whose data is the layout,
+ * to the end word (15), whose data is the sum of all data before it, modulo 2^28; only layout 2 has kind 14. A start word begins afresh at any time, in
+ * either layout. Returns AXIS_ACCEPTED, or the refusal (1 to 7; an end word is tested 1, 4, 5, 6, 7, another 1, then 2 or 3). A refused word empties the
+ * unfinished settings, so that they begin again with their first word. An end word that is accepted brings all fields into force together, and the axis
+ * is neither homed nor in homing error any more and homing is idle; until then the settings in force stay. */
 uint32_t axis_word(uint32_t axis[AXIS_WORDS], uint32_t word);
 
 /* One tick: takes its inputs and writes every word of its answer. Returns the answer's first word: AXIS_ACCEPTED, or AXIS_NO_SETTINGS, where the
  * other six are 0 and the axis stays as it was. The floats are looked at by a hybrid command alone, but seven are lent in each call. */
 uint32_t axis_tick(uint32_t axis[AXIS_WORDS], const uint32_t event[AXIS_EVENT], const float floats[AXIS_FLOATS], uint32_t answer[AXIS_ANSWER]);
 
-/* Writes settings as their AXIS_SETTINGS_WORDS words to the front of a buffer of `length` words, and leaves the rest of it alone. Returns AXIS_ACCEPTED,
- * or the refusal, tested in the order 9, 3, 5, 6, and then leaves all of it alone. The length has 64 bits on a 32-bit machine too. */
-uint32_t axis_write(const uint32_t fields[AXIS_FIELDS], uint32_t *buffer, uint64_t length);
+/* The layouts of the words that carry settings. Either means the same to an axis; ask for AXIS_LAYOUT_1 where an older axis is to read them too. */
+enum {
+    AXIS_LAYOUT_1 = 1, /* 15 words; home offset and software position limits from -2^27 to 2^27 - 1 */
+    AXIS_LAYOUT_2 = 2  /* 16 words; holds every setting */
+};
+
+/* Writes settings as the words of a layout to the front of a buffer of `length` words, and leaves the rest of it alone. Returns AXIS_ACCEPTED, or the
+ * refusal, tested in the order 2, 9, 10, 3, 5, 6, and then leaves all of it alone. The length has 64 bits on a 32-bit machine too. */
+uint32_t axis_write(uint32_t layout, const uint32_t fields[AXIS_FIELDS], uint32_t *buffer, uint64_t length);
 
 /* Why a word, a tick or a buffer is refused, each in its case and in no other. */
 enum {
     AXIS_ACCEPTED = 0,
     AXIS_OUT_OF_SEQUENCE = 1,   /* a word whose kind is neither the next one due nor 0 */
-    AXIS_UNKNOWN_LAYOUT = 2,    /* a start word whose data is not 1 */
+    AXIS_UNKNOWN_LAYOUT = 2,    /* a start word's data, or the layout asked of the writer, is neither 1 nor 2 */
     AXIS_OUT_OF_RANGE = 3,      /* a word's data, or a field, outside its range */
     AXIS_CHECKSUM_MISMATCH = 4, /* an end word whose data is not the sum */
     AXIS_LIMITS_CROSSED = 5,    /* the lower software position limit is not below the upper */
     AXIS_OUT_OF_REACH = 6,      /* a software position limit, geared, is beyond 2^30 counts either way */
     AXIS_DRIVE_ACTIVE = 7,      /* an end word in Operation enabled or Quick stop active */
     AXIS_NO_SETTINGS = 8,       /* a tick before any settings are in force */
-    AXIS_BUFFER_TOO_SHORT = 9   /* fewer than AXIS_SETTINGS_WORDS words */
+    AXIS_BUFFER_TOO_SHORT = 9,  /* fewer words than the layout has */
+    AXIS_LONG_VALUE = 10        /* layout 1 is asked of the writer, and the home offset or a software position limit needs more than 28 bits */
 };
 
 /* The words of an event. Seven zeros are rest with the voltage disabled, at position 0. */
@@ -120,10 +127,10 @@ enum {
     AXIS_FIELD_HOMING_METHOD = 0,           /* 1, 2, 17, 18, 23 to 30, 33, 34 or 35 */
     AXIS_FIELD_HOMING_SPEED_FAST = 1,       /* 1 to 2^28 - 1: searching for a switch */
     AXIS_FIELD_HOMING_SPEED_SLOW = 2,       /* 1 to 2^28 - 1: at its edge, or searching for the index pulse */
-    AXIS_FIELD_HOME_OFFSET = 3,             /* user units (signed), -2^27 to 2^27 - 1 */
+    AXIS_FIELD_HOME_OFFSET = 3,             /* user units (signed), any; layout 1 holds -2^27 to 2^27 - 1 */
     AXIS_FIELD_GEAR_RATIO_NUMERATOR = 4,    /* 1 to 2^20: counts */
     AXIS_FIELD_GEAR_RATIO_DENOMINATOR = 5,  /* 1 to 2^20: for so many user units */
-    AXIS_FIELD_POSITION_LIMIT_LOWER = 6,    /* software position limits, user units (signed), -2^27 to 2^27 - 1 */
+    AXIS_FIELD_POSITION_LIMIT_LOWER = 6,    /* software position limits, user units (signed), any; layout 1 holds -2^27 to 2^27 - 1 */
     AXIS_FIELD_POSITION_LIMIT_UPPER = 7,
     AXIS_FIELD_MAXIMUM_TORQUE = 8,          /* torques: 0 to 3000 thousandths of the rated torque */
     AXIS_FIELD_POSITIVE_TORQUE_LIMIT_1 = 9, /* torque limits of sets 1 and 2, as magnitudes */

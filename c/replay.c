@@ -2,10 +2,11 @@
  *
  * Standard input has an event a line, all numbers in hexadecimal:
  *
- *     fresh                       a fresh axis, as at the beginning
- *     word WORD                   one settings word
- *     tick 7 WORDS 7 FLOATS       one tick; a float is its 32-bit pattern
- *     sheet LENGTH 15 FIELDS      the writer, on a buffer of LENGTH words that each hold DEADBEEF
+ *     fresh                             a fresh axis, as at the beginning
+ *     word WORD                         one settings word
+ *     tick 7 WORDS 7 FLOATS             one tick; a float is its 32-bit pattern
+ *     layout LAYOUT LENGTH 15 FIELDS    the writer, asked for this layout, on a buffer of LENGTH words that each hold DEADBEEF
+ *     sheet LENGTH 15 FIELDS            the same, asked for layout 1
  *
  * Each is answered by a line as docs/LINES.md has it, without the name of a refusal. */
 #include <inttypes.h>
@@ -54,7 +55,8 @@ static void tick(uint32_t *axis)
            answer[AXIS_ANSWER_STATUSWORD], (int32_t)answer[AXIS_ANSWER_MODE], answer[AXIS_ANSWER_ALARM]);
 }
 
-static void sheet(void)
+/* The rest of a line `sheet` or `layout`. */
+static void sheet(const char *event, uint32_t layout)
 {
     uint32_t length, fields[AXIS_FIELDS], buffer[LONGEST_BUFFER];
 
@@ -64,7 +66,7 @@ static void sheet(void)
     take(fields, AXIS_FIELDS);
     for (uint32_t i = 0; i < length; i++)
         buffer[i] = 0xDEADBEEF;
-    printf("sheet %" PRIu32, axis_write(fields, buffer, length));
+    printf("%s %" PRIu32, event, axis_write(layout, fields, buffer, length));
     for (uint32_t i = 0; i < length; i++)
         printf(" %08" PRIX32, buffer[i]);
     printf("\n");
@@ -85,9 +87,14 @@ int main(void)
         } else if (strcmp(event, "tick") == 0) {
             tick(axis);
         } else if (strcmp(event, "sheet") == 0) {
-            sheet();
+            sheet(event, AXIS_LAYOUT_1);
+        } else if (strcmp(event, "layout") == 0) {
+            uint32_t layout;
+
+            take(&layout, 1);
+            sheet(event, layout);
         } else {
-            fail("expected fresh, word, tick or sheet");
+            fail("expected fresh, word, tick, sheet or layout");
         }
     }
     if (ferror(stdin) || fflush(stdout) != 0)

@@ -32,6 +32,7 @@ class Event:
         self.kind = {
             "fresh": "fresh axis",
             "sheet": "settings written",
+            "layout": "settings written",
             "word": "end word" if first >> 28 == 15 else "other word",
             "tick": "hybrid tick" if first == 1 else "tick without floats",
         }[self.keyword]

@@ -12,6 +12,17 @@ pub const SHEET: [u32; 15] = [
 /// Its fields, in the order of the settings struct.
 pub const FIELDS: [u32; 15] = [23, 20000, 1000, 0, 3, 2, -1000i32 as u32, 1000, 1000, 800, 600, 300, 300, 2, 2000];
 
+/// S for a touring rail, whose differences take 33 bits, in layout 2.
+pub const TOURING_SHEET: [u32; 16] = [
+    0x00000002, 0x10000017, 0x20004E20, 0x300003E8, 0x4EC04D00, 0x50000001, 0x60000004, 0x78CA6C00, 0x87359400, 0x900003E8,
+    0xA0960320, 0xB04B012C, 0xC0000002, 0xD00007D0, 0xE0000788, 0xFFA1B6B4,
+];
+
+/// Its fields.
+pub const TOURING_FIELDS: [u32; 15] = [
+    23, 20000, 1000, -1_900_000_000i32 as u32, 1, 4, -2_000_000_000i32 as u32, 2_000_000_000, 1000, 800, 600, 300, 300, 2, 2000,
+];
+
 /// S with other data in the words of these kinds, and the sum to match.
 fn sheet_with(changes: &[(usize, u32)]) -> [u32; 15] {
     const DATA: u32 = 0x0FFF_FFFF;
@@ -24,10 +35,13 @@ fn sheet_with(changes: &[(usize, u32)]) -> [u32; 15] {
     sheet
 }
 
-pub const NAMES: [&str; 17] = [
+pub const NAMES: [&str; 20] = [
     "settings word: start",
     "settings word: one between, mean of 13",
     "settings word: end, takes over",
+    "settings word: start of layout 2",
+    "settings word: kind 14 of layout 2",
+    "settings word: end of layout 2, takes over",
     "settings word: refused (1)",
     "tick refused (8)",
     "tick: rest",
@@ -104,6 +118,9 @@ pub fn rows() -> [Row; NAMES.len()] {
         row(&none, words(&[SHEET[0]; 100])),
         row(&words(&SHEET[..1]), words(&SHEET[1..14])),
         row(&words(&SHEET[..14]), words(&SHEET[14..])),
+        row(&none, words(&[TOURING_SHEET[0]; 100])),
+        row(&words(&TOURING_SHEET[..14]), words(&TOURING_SHEET[14..15])),
+        row(&words(&TOURING_SHEET[..15]), words(&TOURING_SHEET[15..])),
         row(&none, words(&[SHEET[5]; 100])),
         row(&none, many(&|_| STILL)),
         row(&homed, many(&|i| Tick { position: 103 + i, ..STILL })),

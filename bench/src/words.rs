@@ -6,7 +6,7 @@ use crate::baseline::{self, Answer, Axis, Command, Gains, Gear, Limits, Settings
 pub const WIDTH: usize = 7;
 
 /// Words of a proved axis.
-pub const AXIS_WORDS: usize = 37;
+pub const AXIS_WORDS: usize = 38;
 
 /// What an axis is fed with.
 #[derive(Clone)]
@@ -95,8 +95,8 @@ pub extern "C" fn baseline_tick(axis: &mut Axis, event: &[u32; WIDTH], floats: &
 /// The pointer leads to as many words as the length says.
 #[no_mangle]
 #[inline(never)]
-pub unsafe extern "C" fn baseline_write(settings: &Settings, buffer: *mut u32, length: usize) -> u32 {
-    baseline::write_sheet(settings, std::slice::from_raw_parts_mut(buffer, length)) as u32
+pub unsafe extern "C" fn baseline_write(layout: u32, settings: &Settings, buffer: *mut u32, length: usize) -> u32 {
+    baseline::write_sheet(layout, settings, std::slice::from_raw_parts_mut(buffer, length)) as u32
 }
 
 /// The gear among the fifteen fields.
@@ -126,8 +126,8 @@ pub fn settings(f: &[u32; 15]) -> Settings {
 /// # Safety
 /// That of `baseline_write`.
 #[no_mangle]
-pub unsafe extern "C" fn baseline_sheet(fields: &[u32; 15], buffer: *mut u32, length: usize) -> u32 {
-    baseline_write(&settings(fields), buffer, length)
+pub unsafe extern "C" fn baseline_sheet(layout: u32, fields: &[u32; 15], buffer: *mut u32, length: usize) -> u32 {
+    baseline_write(layout, &settings(fields), buffer, length)
 }
 
 /// The narrow gear alone, without home: 1, or 0 where it is too wide and the count is left alone.

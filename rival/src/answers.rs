@@ -26,9 +26,10 @@ pub fn tick(answer: &Answer) -> String {
     )
 }
 
-pub fn sheet(refusal: Option<Refusal>, buffer: &[u32]) -> String {
+/// The writer's, to a `sheet` or a `layout` line.
+pub fn written(keyword: &str, refusal: Option<Refusal>, buffer: &[u32]) -> String {
     let words: String = buffer.iter().map(|word| format!(" {word:08X}")).collect();
-    format!("sheet {}{words}{}", number(refusal), closing(refusal))
+    format!("{keyword} {}{words}{}", number(refusal), closing(refusal))
 }
 
 pub fn unreadable(line: u64, unreadable: &Unreadable) -> String {

@@ -51,6 +51,11 @@ impl Axis {
         self.unfinished.due()
     }
 
+    /// The words of the unfinished sheet.
+    pub fn unfinished(&self) -> &[u32] {
+        self.unfinished.run()
+    }
+
     pub fn since_start(&self) -> &[Moment] {
         &self.since_start
     }

@@ -19,7 +19,7 @@ pub fn narrow(sheet: &Sheet, target: i32) -> Option<i32> {
 
 /// "subtract offset, times numerator, over denominator, rounded towards minus infinity", without home.
 ///
-/// At most 2^28 times 2^20, so 64 bits hold it.
+/// Below 2^32 times 2^20, so 64 bits hold it.
 pub fn counts(sheet: &Sheet, place: i32) -> i64 {
     let difference = i64::from(place) - i64::from(sheet.offset());
     (difference * i64::from(sheet.numerator())).div_euclid(i64::from(sheet.denominator()))

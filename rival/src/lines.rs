@@ -13,7 +13,7 @@ use crate::writer::Settings;
 /// "A line's length, without its end, is at most 255 bytes."
 pub const LONGEST: usize = 255;
 
-/// The longest buffer a `sheet` line may lend.
+/// The longest buffer a `sheet` or `layout` line may lend.
 const LONGEST_BUFFER: u32 = 32;
 
 /// One line's bytes without its end, or word that they were too many.
@@ -66,6 +66,11 @@ pub enum Line {
     Word(u32),
     Tick(Tick),
     Sheet {
+        length: usize,
+        settings: Box<Settings>,
+    },
+    Layout {
+        layout: u32,
         length: usize,
         settings: Box<Settings>,
     },
@@ -143,6 +148,7 @@ enum Keyword {
     Word,
     Tick,
     Sheet,
+    Layout,
     Fresh,
 }
 
@@ -158,6 +164,7 @@ pub fn read(text: &Text) -> Result<Line, Unreadable> {
         b"word" => Some(Keyword::Word),
         b"tick" => Some(Keyword::Tick),
         b"sheet" => Some(Keyword::Sheet),
+        b"layout" => Some(Keyword::Layout), // not named in the answer: "the lines below never change"
         b"fresh" => Some(Keyword::Fresh),
         _ => None,
     })?;
@@ -165,6 +172,9 @@ pub fn read(text: &Text) -> Result<Line, Unreadable> {
         Keyword::Word => Line::Word(words.hexadecimal(8)?),
         Keyword::Tick => Line::Tick(tick(&mut words)?),
         Keyword::Sheet => Line::Sheet { length: length(&mut words)?, settings: Box::new(settings(&mut words)?) },
+        Keyword::Layout => {
+            Line::Layout { layout: words.u32()?, length: length(&mut words)?, settings: Box::new(settings(&mut words)?) }
+        }
         Keyword::Fresh => Line::Fresh,
     };
     words.end()?;

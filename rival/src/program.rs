@@ -3,7 +3,7 @@
 use crate::answers;
 use crate::axis::Axis;
 use crate::lines::{self, Line, Text, Unreadable};
-use crate::writer;
+use crate::writer::{self, Settings};
 
 /// What each word of a lent buffer holds before the call.
 const LENT: u32 = 0xDEAD_BEEF;
@@ -35,12 +35,16 @@ impl Program {
             }
             Ok(Line::Word(word)) => Some(answers::word(self.axis.word(*word).err())),
             Ok(Line::Tick(tick)) => Some(answers::tick(&self.axis.tick(tick))),
-            Ok(Line::Sheet { length, settings }) => {
-                let mut buffer = vec![LENT; *length];
-                let refusal = writer::write(settings, &mut buffer).err();
-                Some(answers::sheet(refusal, &buffer))
-            }
+            Ok(Line::Sheet { length, settings }) => Some(written("sheet", 1, *length, settings)),
+            Ok(Line::Layout { layout, length, settings }) => Some(written("layout", *layout, *length, settings)),
             Err(unreadable) => Some(answers::unreadable(self.line, unreadable)),
         }
     }
+}
+
+/// The writer on a lent buffer; the axis is left alone.
+fn written(keyword: &str, layout: u32, length: usize, settings: &Settings) -> String {
+    let mut buffer = vec![LENT; length];
+    let refusal = writer::write(layout, settings, &mut buffer).err();
+    answers::written(keyword, refusal, &buffer)
 }

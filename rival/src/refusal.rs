@@ -1,4 +1,4 @@
-//! The nine refusals and their trade words.
+//! The ten refusals and their trade words.
 
 #[derive(Clone, Copy, Debug, PartialEq, Eq)]
 pub enum Refusal {
@@ -11,6 +11,7 @@ pub enum Refusal {
     AxisLive = 7,
     NoSheet = 8,
     ShortBuffer = 9,
+    LongValue = 10,
 }
 
 impl Refusal {
@@ -29,6 +30,7 @@ impl Refusal {
             Refusal::AxisLive => "axis live",
             Refusal::NoSheet => "no sheet",
             Refusal::ShortBuffer => "short buffer",
+            Refusal::LongValue => "long value",
         }
     }
 }

@@ -1,16 +1,27 @@
-//! A whole sheet: fifteen words, and what they carry. Its fields are read from the words each time they are asked for.
+//! A whole sheet: the words of its layout, and what they carry. Its fields are read from the words each time they are asked
+//! for; which layout carried them is read from the first.
 
 use crate::gear;
 use crate::refusal::Refusal;
 
-/// "Fifteen 32-bit words."
-pub const LENGTH: usize = 15;
-
 /// "The top 4 bits are the kind, the low 28 the data."
 pub const DATA: u32 = (1 << 28) - 1;
 
-/// "Kinds come once each in rising order": 0 to 13, then 15. There is no kind 14.
-pub const KINDS: [u32; LENGTH] = [0, 1, 2, 3, 4, 5, 6, 7, 8, 9, 10, 11, 12, 13, 15];
+/// "Fifteen 32-bit words"; "the writer needs 16 words for layout 2".
+pub const LONGEST: usize = 16;
+
+/// The layouts that somebody defined.
+pub const LAYOUTS: [u32; 2] = [1, 2];
+
+/// "Kinds come once each in rising order": in layout 1 there is no kind 14, layout 2 has "a kind 14 word after kind 13".
+/// Nothing for "a layout nobody defined".
+pub fn kinds(layout: u32) -> Option<&'static [u32]> {
+    match layout {
+        1 => Some(&[0, 1, 2, 3, 4, 5, 6, 7, 8, 9, 10, 11, 12, 13, 15]),
+        2 => Some(&[0, 1, 2, 3, 4, 5, 6, 7, 8, 9, 10, 11, 12, 13, 14, 15]),
+        _ => None,
+    }
+}
 
 pub const START: u32 = 0;
 pub const METHOD: u32 = 1;
@@ -26,6 +37,7 @@ pub const LIMIT_SET_1: u32 = 10;
 pub const LIMIT_SET_2: u32 = 11;
 pub const QUICK_STOP_OPTION: u32 = 12;
 pub const RATED_TORQUE: u32 = 13;
+pub const TOP_BITS: u32 = 14;
 pub const END: u32 = 15;
 
 /// Torques are thousandths of rated; none may be above three times rated.
@@ -51,17 +63,32 @@ pub fn signed(data: u32) -> i32 {
     (data << 4) as i32 >> 4
 }
 
-/// Refusal 3's question for the kinds 1 to 13. Start and end words have tests of their own.
+/// Whether a place "needs more than 28 bits".
+pub fn is_long(place: i64) -> bool {
+    !(-(1 << 27)..1 << 27).contains(&place)
+}
+
+/// Where kind 14's data has the top four bits of this kind's place.
+pub fn top_bits_at(kind: u32) -> u32 {
+    match kind {
+        OFFSET => 0,
+        LOWER_STOP => 4,
+        _ => 8,
+    }
+}
+
+/// Refusal 3's question for the kinds 1 to 14. Start and end words have tests of their own.
 pub fn data_is_in_range(kind: u32, data: u32) -> bool {
     match kind {
         METHOD => matches!(data, 1 | 2 | 17 | 18 | 23..=30 | 33 | 34 | 35),
         FAST | SLOW => data >= 1,
-        OFFSET | LOWER_STOP | UPPER_STOP => true, // every pattern of 28 bits is a place
+        OFFSET | LOWER_STOP | UPPER_STOP => true, // every pattern of 28 bits is a place, or the end of one
         NUMERATOR | DENOMINATOR => (1..=1 << 20).contains(&data),
         MAXIMUM_TORQUE => data <= TORQUE_TOP,
         LIMIT_SET_1 | LIMIT_SET_2 => positive(data) <= TORQUE_TOP && negative(data) <= TORQUE_TOP,
         QUICK_STOP_OPTION => data == 2 || data == 6,
         RATED_TORQUE => (1..=1 << 24).contains(&data),
+        TOP_BITS => data < 1 << 12, // "bits 12 to 27 are zero"
         _ => false,
     }
 }
@@ -76,7 +103,7 @@ fn negative(data: u32) -> u32 {
     data >> 14
 }
 
-/// "The end's data is the sum of the fourteen earlier data fields, modulo 2^28."
+/// "The end's data is the sum of the fourteen earlier data fields, modulo 2^28"; "the sum includes kind 14".
 pub fn sum(earlier: &[u32]) -> u32 {
     earlier.iter().fold(0, |sum: u32, &word| sum.wrapping_add(data(word))) & DATA
 }
@@ -89,22 +116,39 @@ pub enum LimitSet {
 
 #[derive(Clone, Copy, Debug, PartialEq, Eq)]
 pub struct Sheet {
-    words: [u32; LENGTH],
+    /// Those past the sheet's end are 0.
+    words: [u32; LONGEST],
 }
 
 impl Sheet {
     /// The words are an unbroken run of due words, each in its range.
-    pub fn of(words: [u32; LENGTH]) -> Sheet {
+    pub fn of(run: &[u32]) -> Sheet {
+        let mut words = [0; LONGEST];
+        words[..run.len()].copy_from_slice(run);
         Sheet { words }
     }
 
-    pub fn words(&self) -> &[u32; LENGTH] {
-        &self.words
+    pub fn layout(&self) -> u32 {
+        self.carried(START)
     }
 
-    /// Up to 13 a word's place is its kind.
+    /// The data of all words before the end word.
+    pub fn summed(&self) -> impl Iterator<Item = u32> + '_ {
+        self.words.iter().take_while(|&&word| kind(word) != END).map(|&word| data(word))
+    }
+
+    /// Up to the end a word's place is its kind.
     fn carried(&self, kind: u32) -> u32 {
         data(self.words[kind as usize])
+    }
+
+    /// Offset or stop: in layout 1 of 28 bits, in layout 2 "32-bit signed", its top four bits from kind 14.
+    fn place(&self, kind: u32) -> i32 {
+        let low = self.carried(kind);
+        match self.layout() {
+            1 => signed(low),
+            _ => (self.carried(TOP_BITS) >> top_bits_at(kind) << 28 | low) as i32,
+        }
     }
 
     pub fn method(&self) -> u32 {
@@ -120,7 +164,7 @@ impl Sheet {
     }
 
     pub fn offset(&self) -> i32 {
-        signed(self.carried(OFFSET))
+        self.place(OFFSET)
     }
 
     pub fn numerator(&self) -> i32 {
@@ -132,11 +176,11 @@ impl Sheet {
     }
 
     pub fn lower_stop(&self) -> i32 {
-        signed(self.carried(LOWER_STOP))
+        self.place(LOWER_STOP)
     }
 
     pub fn upper_stop(&self) -> i32 {
-        signed(self.carried(UPPER_STOP))
+        self.place(UPPER_STOP)
     }
 
     pub fn maximum_torque(&self) -> i64 {

@@ -1,6 +1,7 @@
 //! What a script reaches, told line by line by the rival's own view.
 
 mod gears;
+mod layouts;
 mod needed;
 mod settings;
 mod text;
@@ -22,6 +23,8 @@ pub struct Tally {
     refused: Option<(Refusal, u32)>,
     /// A takeover since the last tick.
     taken_over: bool,
+    /// The layout of the run that the latest start word left halfway.
+    left: Option<u32>,
     counts: BTreeMap<String, u64>,
 }
 
@@ -43,6 +46,7 @@ impl Default for Tally {
             stretch: Stretch::default(),
             refused: None,
             taken_over: false,
+            left: None,
             counts,
         }
     }
@@ -70,10 +74,19 @@ impl Tally {
                 self.stretch = Stretch::default();
                 self.refused = None;
                 self.taken_over = false;
+                self.left = None;
             }
             Ok(Line::Word(word)) => self.saw_word(word),
             Ok(Line::Tick(tick)) => self.saw_tick(&tick),
-            Ok(Line::Sheet { length, settings }) => self.saw_writer(length, &settings),
+            Ok(Line::Sheet { length, settings }) => {
+                self.saw(&format!("writer: buffer of {length}"));
+                self.saw_if(settings.is_long() && length >= 15, "writer: long value by a sheet line");
+                self.saw_writer(1, length, &settings);
+            }
+            Ok(Line::Layout { layout, length, settings }) => {
+                self.saw_writer(layout, length, &settings);
+                self.saw_layout_line(layout, length, &settings);
+            }
             Ok(Line::Blank) | Err(_) => {}
         }
     }

@@ -2,7 +2,7 @@
 
 use crate::drive_state::DriveState;
 use crate::refusal::Refusal;
-use crate::sheet::{self, Sheet, KINDS};
+use crate::sheet::{self, Sheet};
 
 /// The unfinished sheet is nothing but the words of the run, in the order heard.
 #[derive(Clone, Debug, Default)]
@@ -11,9 +11,15 @@ pub struct Unfinished {
 }
 
 impl Unfinished {
-    /// The kind due next; an empty run waits for a start word.
+    /// The words of the run.
+    pub fn run(&self) -> &[u32] {
+        &self.run
+    }
+
+    /// The kind due next, by the layout that the run's start word announced; an empty run waits for a start word.
     pub fn due(&self) -> u32 {
-        KINDS[self.run.len()]
+        let layout = self.run.first().map(|&start| sheet::data(start));
+        layout.and_then(sheet::kinds).map_or(sheet::START, |kinds| kinds[self.run.len()])
     }
 
     /// Hears one word. An accepted end word hands out the sheet of the run; that and any refusal empty the run.
@@ -35,7 +41,7 @@ impl Unfinished {
             return Err(Refusal::OutOfTurn);
         }
         match kind {
-            sheet::START if data != 1 => Err(Refusal::StrangeLayout),
+            sheet::START if sheet::kinds(data).is_none() => Err(Refusal::StrangeLayout),
             sheet::START => Ok(None),
             sheet::END => self.close(word, state).map(Some),
             _ if !sheet::data_is_in_range(kind, data) => Err(Refusal::OutOfRange),
@@ -47,9 +53,7 @@ impl Unfinished {
         if sheet::data(end) != sheet::sum(&self.run) {
             return Err(Refusal::BadSum);
         }
-        let mut words = [end; sheet::LENGTH];
-        words[..self.run.len()].copy_from_slice(&self.run);
-        let whole = Sheet::of(words);
+        let whole = Sheet::of(&[&self.run[..], &[end]].concat());
         whole.stops_are_sound()?;
         if state.is_live() {
             return Err(Refusal::AxisLive);

@@ -23,7 +23,7 @@ fn sheet((offset, numerator, denominator, lower_stop, upper_stop): Gear) -> Opti
         rated_torque: 1,
         ..Settings::default()
     };
-    settings.words().map(Sheet::of).filter(|sheet| sheet.stops_are_sound().is_ok())
+    settings.words(2).map(|words| Sheet::of(&words)).filter(|sheet| sheet.stops_are_sound().is_ok())
 }
 
 /// What request (iii) says, in 64 bits.
@@ -50,10 +50,15 @@ fn on_the_edges() {
     for (product, numerator, denominator, fits) in [
         (0x7FFF_FFFE, 9, 2, true),
         (0x7FFF_FFFE, 1_015_839, 1 << 20, true),
+        (0x7FFF_FFFF, 1, 2, true),
+        (0x8000_0000, 1, 2, false),
         (0x8000_0000, 16, 2, false),
         (0x8000_0000, 1 << 20, 1 << 20, false),
+        (-0x8000_0000, 1, 2, true),
         (-0x8000_0000, 16, 2, true),
         (-0x8000_0000, 1 << 20, 1 << 20, true),
+        (-0x8000_0001, 1, 3, false),
+        (-0x8000_0001, 3, 3, false),
         (-0x8000_0002, 10, 3, false),
         (-0x8000_0002, 1_047_553, 1 << 20, false),
     ] {
@@ -67,6 +72,25 @@ fn on_the_edges() {
     }
 }
 
+/// Differences of 33 bits, up to the greatest there are; one that is cut to 32 bits would be narrow.
+#[test]
+fn beyond_32_bits() {
+    const ENDS: (i64, i64) = (-(1 << 31), (1 << 31) - 1);
+    for offset in [ENDS.0, ENDS.0 + 1, -1, 0, 1, ENDS.1 - 1, ENDS.1] {
+        for (numerator, denominator) in [(1, 4), (1, 5), (1 << 18, 1 << 20), (1, 1 << 20)] {
+            let gear = (offset, numerator, denominator, ENDS.0, ENDS.1);
+            for target in [ENDS.0, ENDS.0 + 1, -1, 0, 1, offset, ENDS.1 - 1, ENDS.1] {
+                let fits = i32::try_from((target - offset) * numerator).is_ok();
+                assert_eq!(narrow(gear, target), fits, "{gear:?}, {target}");
+            }
+        }
+    }
+    let reaches = |gear: Gear| sheet(gear).is_some();
+    assert!(reaches((-1, 1, 2, ENDS.0, ENDS.1)) && reaches((-2, 1, 2, ENDS.0, ENDS.1)));
+    assert!(!reaches((-3, 1, 2, ENDS.0, ENDS.1)) && !reaches((1, 1, 2, ENDS.0, ENDS.1)));
+    assert!(!reaches((ENDS.0, 1, 1, ENDS.1 - 1, ENDS.1)) && !reaches((ENDS.1, 1, 1, ENDS.0, ENDS.0 + 1)));
+}
+
 #[test]
 fn anywhere() {
     let mut random = Random::new(402);
@@ -77,7 +101,8 @@ fn anywhere() {
             random.between(0, (1 << bits) - 1)
         };
         let (numerator, denominator) = (1 + up_to(20), 1 + up_to(20));
-        let mut place = || up_to(28) - (1 << 27);
+        let bits = 28 + 4 * up_to(1) as u32;
+        let mut place = || up_to(bits) - (1 << (bits - 1));
         let gear = (place(), numerator, denominator, place(), place());
         let near = gear.0 + ((1 << 31) / numerator) * [-1, 1][up_to(1) as usize] + up_to(2) - 2;
         let far = up_to(32) - (1 << 31);

@@ -67,6 +67,14 @@ fn columns() {
         ("sheet 33", "7 expected a whole number"),
         ("sheet 15 -0", "10 expected a whole number"),
         ("sheet 15 23 1 1 -2147483649", "17 expected a whole number"),
+        ("Layout 1", "1 expected word, tick, sheet or fresh"),
+        ("layout", "7 expected a whole number"),
+        ("layout 4294967296", "8 expected a whole number"),
+        ("layout -1 16", "8 expected a whole number"),
+        ("layout 4294967295 33", "19 expected a whole number"),
+        ("layout 2 16 23 1 1 -2147483649", "20 expected a whole number"),
+        ("layout 2 16 35 1 1 0 1 1 0 1 0 0 0 0 0 2", "41 expected a whole number"),
+        ("layout 2 16 35 1 1 0 1 1 0 1 0 0 0 0 0 2 1 0", "44 expected end of line"),
     ] {
         assert_eq!(answers(line.as_bytes()), format!("unreadable 1 {expected}\n"), "{line:?}");
     }
@@ -237,5 +245,116 @@ fn methods() {
         assert_eq!(answers(line.as_bytes()).starts_with("sheet 0 "), allowed, "{method}");
         let word = format!("word 1\nword {:08X}", 0x1000_0000 + method);
         assert_eq!(answers(word.as_bytes()) == "word 0\nword 0\n", allowed, "{method}");
+    }
+}
+
+/// A long rail: offset, lower and upper stop with top bits 1, 8 and 7.
+const LONG: [&str; 16] = [
+    "00000002", "10000023", "20000001", "30000001", "40000003", "50000001", "60000004", "70000000", "8FFFFFFF", "90000000",
+    "A0000000", "B0000000", "C0000002", "D0000001", "E0000781", "F00007B2",
+];
+
+fn words(words: &[&str]) -> String {
+    words.iter().map(|word| format!("word {word}\n")).collect()
+}
+
+#[test]
+fn layouts_of_the_writer() {
+    let rail = "35 1 1 268435459 1 4 -2147483648 2147483647 0 0 0 0 0 2 1";
+    let short = "35 1 1 -1 1 4 -134217728 134217727 0 0 0 0 0 2 1";
+    let lent = |words: usize| " DEADBEEF".repeat(words);
+    let long = LONG.join(" ");
+    for (line, expected) in [
+        (format!("layout 2 17 {rail}"), format!("layout 0 {long} DEADBEEF")),
+        (format!("layout 2 16 {rail}"), format!("layout 0 {long}")),
+        (format!("layout 2 15 {rail}"), format!("layout 9{}  short buffer", lent(15))),
+        (format!("layout 1 15 {rail}"), format!("layout 10{}  long value", lent(15))),
+        (format!("layout 1 14 {rail}"), format!("layout 9{}  short buffer", lent(14))),
+        (format!("layout 3 14 {rail}"), format!("layout 2{}  strange layout", lent(14))),
+        (format!("layout 0 0 {rail}"), "layout 2  strange layout".to_string()),
+        (format!("layout 4294967295 16 {short}"), format!("layout 2{}  strange layout", lent(16))),
+        (format!("sheet 15 {rail}"), format!("sheet 10{}  long value", lent(15))),
+        // No place is long; all its top bits are those of bit 27.
+        (
+            format!("layout 1 15 {short}"),
+            "layout 0 00000001 10000023 20000001 30000001 4FFFFFFF 50000001 60000004 78000000 87FFFFFF 90000000 A0000000 B0000000 \
+             C0000002 D0000001 F000002C"
+                .to_string(),
+        ),
+        (
+            format!("layout 2 16 {short}"),
+            "layout 0 00000002 10000023 20000001 30000001 4FFFFFFF 50000001 60000004 78000000 87FFFFFF 90000000 A0000000 B0000000 \
+             C0000002 D0000001 E00000FF F000012C"
+                .to_string(),
+        ),
+    ] {
+        assert_eq!(answers(line.as_bytes()), format!("{expected}\n"), "{line}");
+    }
+    // Each place alone, on either side of 28 bits' edges; then beside another fault.
+    for place in 0..3 {
+        for (value, number) in
+            [(-134_217_729, 10), (-134_217_728, 0), (134_217_727, 0), (134_217_728, 10), (-2_147_483_648, 10)]
+        {
+            let mut places = [0, -1000, 1000];
+            places[place] = value;
+            let [offset, lower, upper] = places;
+            let line = |layout, slow| format!("layout {layout} 16 35 1 {slow} {offset} 1 4 {lower} {upper} 0 0 0 0 0 2 1");
+            let crossed = if lower < upper { 0 } else { 5 };
+            for (line, number) in [
+                (line(1, 1), if number == 0 { crossed } else { number }),
+                (line(2, 1), crossed),
+                (line(1, 0), if number == 0 { 3 } else { number }),
+                (line(2, 0), 3),
+            ] {
+                assert!(answers(line.as_bytes()).starts_with(&format!("layout {number} ")), "{line}");
+            }
+        }
+    }
+}
+
+#[test]
+fn layouts_of_the_words() {
+    let all_accepted = |script: &str| answers(script.as_bytes()).lines().all(|answer| answer == "word 0");
+    let last_two = |script: &str| {
+        let answers = answers(script.as_bytes());
+        let numbers: Vec<&str> = answers.lines().map(|answer| &answer[..6]).collect();
+        numbers[numbers.len() - 2..].join(", ")
+    };
+    let whole = words(&LONG);
+    assert!(all_accepted(&whole));
+    let until = |kind: usize| words(&LONG[..kind]);
+    for bit in 12..28 {
+        let top_bits = format!("word {:08X}\n", 0xE000_0781_u32 | 1 << bit);
+        assert_eq!(last_two(&format!("{}{top_bits}{}", until(14), words(&[LONG[14]]))), "word 3, word 1", "{bit}");
+    }
+    assert_eq!(last_two(&format!("{}word F0000031\n{}", until(14), words(&[LONG[14]]))), "word 1, word 1");
+    assert_eq!(last_two(&format!("{}{}", until(15), words(&[LONG[14], LONG[15]]))), "word 1, word 1");
+    assert_eq!(last_two(&format!("{}word F0000031\n", until(15))), "word 0, word 4");
+    // In layout 1, kind 14 is out of turn; a start of the other layout begins afresh wherever it comes.
+    let short = ["00000001"].iter().chain(&LONG[1..14]).copied().chain(["F0000030"]).collect::<Vec<_>>();
+    assert_eq!(last_two(&format!("{}{}", words(&short[..14]), words(&LONG[14..]))), "word 1, word 1");
+    for heard in 1..16 {
+        assert_eq!(last_two(&format!("{}{}", until(heard), words(&short[..14]))), "word 0, word 0", "{heard}");
+        let halfway = words(&short[..heard.min(14)]);
+        assert!(all_accepted(&format!("{halfway}{whole}")), "{heard}");
+    }
+    for strange in ["00000000", "00000003", "0FFFFFFF", "08000002"] {
+        assert_eq!(last_two(&format!("{}word {strange}\n{}", until(5), words(&[LONG[5]]))), "word 2, word 1", "{strange}");
+    }
+}
+
+/// Homed at 5 and moved to either end: differences of −2^31 − 2^28 − 3 and 2^31 − 1 − 2^28 − 3, a quarter of them.
+#[test]
+fn long_rail() {
+    let mut script = words(&LONG);
+    for control in ["0", "6", "F", "F", "1F"] {
+        script += &format!("tick {control} homing 0 at 5 ---- still set1 0\n");
+    }
+    for (target, position, status) in
+        [(-2_147_483_648_i64, -603_979_772, 0x1337), (2_147_483_647, 469_762_052, 0x1337), (268_435_459, 5, 0x1337)]
+    {
+        let tick = format!("tick F position {target} 0 at 9 ---- still set1 0\n");
+        let expected = format!("tick 0 torque 0 speed 0 position {position} status {status:04X} mode 8 alarm 0");
+        assert_eq!(answers(format!("{script}{tick}").as_bytes()).lines().last(), Some(&expected[..]), "{target}");
     }
 }

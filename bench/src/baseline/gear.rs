@@ -30,18 +30,30 @@ impl Gear {
         self.denominator
     }
 
-    /// A position as a count from home, rounded towards minus infinity; nothing where the product does not fit 32 bits.
+    /// Whether a position is not below the offset, and how far it is from it.
+    fn difference(&self, position: i32) -> (bool, u32) {
+        if position >= self.offset {
+            (true, position.wrapping_sub(self.offset) as u32)
+        } else {
+            (false, self.offset.wrapping_sub(position) as u32)
+        }
+    }
+
+    /// A position as a count from home, rounded towards minus infinity; nothing where the difference or the product does not fit 32 bits.
     ///
-    /// The difference is below 2^28, the numerator at most 2^20. So the product of their upper bits fits. Where it is above 2^15 the product is
-    /// above 2^31; where it is not the product is below 2^32.
+    /// The numerator is from 1 to 2^20, so no product is less than its difference: it alone is tested. The product of some upper bits of both
+    /// fits, and tells where the whole one is above 2^31; where it is not the whole one is below 2^32.
     pub fn narrow(&self, position: i32) -> Option<i32> {
-        let difference = position - self.offset;
-        let size = difference.unsigned_abs();
-        if (size >> 12) * (self.numerator >> 4) > 1 << 15 {
+        let (above, size) = self.difference(position);
+        if size < 1 << 28 {
+            if (size >> 12) * (self.numerator >> 4) > 1 << 15 {
+                return None;
+            }
+        } else if self.numerator > 8 || (size >> 4) * self.numerator > 1 << 27 {
             return None;
         }
         let product = size * self.numerator;
-        if difference >= 0 {
+        if above {
             if product >= 1 << 31 {
                 return None;
             }
@@ -56,10 +68,10 @@ impl Gear {
 
     /// The same for every position.
     pub fn wide(&self, position: i32) -> i64 {
-        let difference = position - self.offset;
-        let product = difference.unsigned_abs() as u64 * self.numerator as u64;
+        let (above, size) = self.difference(position);
+        let product = size as u64 * self.numerator as u64;
         let divisor = self.divisor() as u64;
-        if difference >= 0 {
+        if above {
             (product / divisor) as i64
         } else {
             -(((product + divisor - 1) / divisor) as i64)

@@ -42,13 +42,24 @@ fn rated_ok(rated: u32) -> bool {
     rated.wrapping_sub(1) < 1 << 24
 }
 
-fn position_ok(position: i32) -> bool {
-    (-(1 << 27)..1 << 27).contains(&position)
+/// Layout 1 or 2.
+fn layout_ok(layout: u32) -> bool {
+    layout.wrapping_sub(1) < 2
 }
 
 /// 28 bits read as signed.
 fn position(data: u32) -> i32 {
     (data << 4) as i32 >> 4
+}
+
+/// A position's low 28 bits, below the four from this bit on.
+fn lengthened(low: i32, data: u32, bit: u32) -> i32 {
+    (low as u32 & DATA | data >> bit << 28) as i32
+}
+
+/// A position's top four bits, from this bit on.
+fn top(position: i32, bit: u32) -> u32 {
+    position as u32 >> 28 << bit
 }
 
 impl Settings {
@@ -76,15 +87,18 @@ impl Settings {
         }
     }
 
+    /// Whether every position has 28 bits.
+    fn short(&self) -> bool {
+        let short = |p: i32| position(p as u32) == p;
+        short(self.gear.offset) && short(self.gear.lower) && short(self.gear.upper)
+    }
+
     fn in_range(&self) -> bool {
         method_ok(self.method as u32)
             && self.fast.wrapping_sub(1) < DATA
             && self.slow.wrapping_sub(1) < DATA
-            && position_ok(self.gear.offset)
             && ratio_ok(self.gear.numerator)
             && ratio_ok(self.gear.denominator)
-            && position_ok(self.gear.lower)
-            && position_ok(self.gear.upper)
             && torque_ok(self.maximum as u32)
             && self.limits.iter().all(|l| torque_ok(l.positive as u32) && torque_ok(l.negative as u32))
             && (self.option == 2 || self.option == 6)
@@ -92,15 +106,16 @@ impl Settings {
     }
 }
 
-/// The settings that are being read: the kind due next, and the sum of the data so far.
+/// The settings that are being read: the kind due next, the one that comes after 13, and the sum of the data so far.
 pub struct Pending {
     pub settings: Settings,
     due: u8,
+    after_13: u8,
     sum: u32,
 }
 
 impl Pending {
-    pub const EMPTY: Pending = Pending { settings: Settings::NONE, due: 0, sum: 0 };
+    pub const EMPTY: Pending = Pending { settings: Settings::NONE, due: 0, after_13: 15, sum: 0 };
 
     /// Takes one word. Where it is refused, or completes the settings, nothing stays due but a start word.
     pub fn take(&mut self, word: u32) -> u8 {
@@ -114,10 +129,11 @@ impl Pending {
         let ok = match kind {
             0 => {
                 self.sum = 0;
-                if data != 1 {
+                if !layout_ok(data) {
                     self.due = 0;
                     return 2;
                 }
+                self.after_13 = 16 - data as u8;
                 true
             }
             1 => {
@@ -169,6 +185,12 @@ impl Pending {
                 s.rated = data;
                 rated_ok(data)
             }
+            14 => {
+                s.gear.offset = lengthened(s.gear.offset, data, 0);
+                s.gear.lower = lengthened(s.gear.lower, data, 4);
+                s.gear.upper = lengthened(s.gear.upper, data, 8);
+                data < 1 << 12
+            }
             _ => {
                 self.due = 0;
                 if data != self.sum & DATA {
@@ -183,16 +205,22 @@ impl Pending {
             return 3;
         }
         self.sum += data;
-        self.due = if kind == 13 { 15 } else { kind + 1 };
+        self.due = if kind == 13 { self.after_13 } else { kind + 1 };
         0
     }
 }
 
-/// Writes settings as fifteen words to the front of the buffer; 0, or why they are refused.
-pub fn write_sheet(s: &Settings, buffer: &mut [u32]) -> u8 {
-    let Some(words) = buffer.first_chunk_mut::<15>() else {
+/// Writes settings as the words of a layout to the front of the buffer; 0, or why they are refused.
+pub fn write_sheet(layout: u32, s: &Settings, buffer: &mut [u32]) -> u8 {
+    if !layout_ok(layout) {
+        return 2;
+    }
+    if buffer.len() < 14 + layout as usize {
         return 9;
-    };
+    }
+    if layout == 1 && !s.short() {
+        return 10;
+    }
     if !s.in_range() {
         return 3;
     }
@@ -202,7 +230,7 @@ pub fn write_sheet(s: &Settings, buffer: &mut [u32]) -> u8 {
     }
     let limits = |l: &Limits| (l.negative as u32) << 14 | l.positive as u32;
     let data = [
-        1,
+        layout,
         s.method as u32,
         s.fast,
         s.slow,
@@ -217,11 +245,17 @@ pub fn write_sheet(s: &Settings, buffer: &mut [u32]) -> u8 {
         s.option as u32,
         s.rated,
     ];
+    let (words, last) = buffer.split_at_mut(data.len());
     let mut sum = 0;
     for (kind, &x) in data.iter().enumerate() {
         words[kind] = (kind as u32) << 28 | x;
         sum += x;
     }
-    words[14] = 15 << 28 | sum & DATA;
+    if layout == 2 {
+        let tops = top(s.gear.offset, 0) | top(s.gear.lower, 4) | top(s.gear.upper, 8);
+        last[0] = 14 << 28 | tops;
+        sum += tops;
+    }
+    last[layout as usize - 1] = 15 << 28 | sum & DATA;
     0
 }

@@ -2,12 +2,13 @@
 
 use std::io::{self, BufWriter, Write};
 
-use bench::baseline::{self, Axis, Gear, Limits, Settings};
+use bench::baseline::{self, Axis};
 use bench::lines::tick;
+use bench::words::settings;
 use rival::lines::{self, next_text, Line};
 use rival::{answers, refusal::Refusal, writer};
 
-const REFUSALS: [Refusal; 9] = [
+const REFUSALS: [Refusal; 10] = [
     Refusal::OutOfTurn,
     Refusal::StrangeLayout,
     Refusal::OutOfRange,
@@ -17,6 +18,7 @@ const REFUSALS: [Refusal; 9] = [
     Refusal::AxisLive,
     Refusal::NoSheet,
     Refusal::ShortBuffer,
+    Refusal::LongValue,
 ];
 
 fn refusal(number: u8) -> Option<Refusal> {
@@ -35,37 +37,11 @@ fn answer(a: &baseline::Answer) -> rival::tick::Answer {
     }
 }
 
-/// The settings, or nothing where the struct has no room for a value.
-fn settings(s: &writer::Settings) -> Option<Settings> {
-    let limits = |positive: i64, negative: i64| {
-        Some(Limits { positive: positive.try_into().ok()?, negative: negative.try_into().ok()? })
-    };
-    Some(Settings {
-        fast: s.fast.try_into().ok()?,
-        slow: s.slow.try_into().ok()?,
-        gear: Gear {
-            offset: s.offset.try_into().ok()?,
-            numerator: s.numerator.try_into().ok()?,
-            denominator: s.denominator.try_into().ok()?,
-            lower: s.lower_stop.try_into().ok()?,
-            upper: s.upper_stop.try_into().ok()?,
-        },
-        rated: s.rated_torque.try_into().ok()?,
-        maximum: s.maximum_torque.try_into().ok()?,
-        limits: [limits(s.positive_1, s.negative_1)?, limits(s.positive_2, s.negative_2)?],
-        method: s.method.try_into().ok()?,
-        option: s.quick_stop_option.try_into().ok()?,
-    })
-}
-
-fn sheet(length: usize, s: &writer::Settings) -> String {
+/// The writer, by a `sheet` or a `layout` line. Each value was read within 32 bits.
+fn written(keyword: &str, layout: u32, length: usize, s: &writer::Settings) -> String {
     let mut buffer = vec![0xDEAD_BEEF; length];
-    let number = match settings(s) {
-        Some(s) => baseline::write_sheet(&s, &mut buffer),
-        None if length < 15 => 9,
-        None => 3,
-    };
-    answers::sheet(refusal(number), &buffer)
+    let number = baseline::write_sheet(layout, &settings(&s.values().map(|value| value as u32)), &mut buffer);
+    answers::written(keyword, refusal(number), &buffer)
 }
 
 fn main() -> io::Result<()> {
@@ -83,7 +59,8 @@ fn main() -> io::Result<()> {
             }
             Ok(Line::Word(word)) => answers::word(refusal(baseline::word(&mut axis, word))),
             Ok(Line::Tick(t)) => answers::tick(&answer(&baseline::tick(&mut axis, &tick(&t)))),
-            Ok(Line::Sheet { length, settings }) => sheet(length, &settings),
+            Ok(Line::Sheet { length, settings }) => written("sheet", 1, length, &settings),
+            Ok(Line::Layout { layout, length, settings }) => written("layout", layout, length, &settings),
             Err(unreadable) => answers::unreadable(line, &unreadable),
         };
         writeln!(output, "{answer}")?;

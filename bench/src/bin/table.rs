@@ -102,7 +102,9 @@ fn main() -> io::Result<()> {
         let per = |calls: &[&str]| (cost(&format!("row{i}::whole"), calls) - cost(&format!("row{i}::before"), calls)) / n;
         print_row(name, per(&["axis_word", "axis_tick"]), per(&["baseline_word", "baseline_tick"]));
     }
-    print_row("settings written as words", cost("write_both", &["axis_write"]), cost("write_both", &["baseline_write"]));
+    for (name, caller) in [("settings written as words", "write_layout_1"), ("settings written as words of layout 2", "write_layout_2")] {
+        print_row(name, cost(caller, &["axis_write"]), cost(caller, &["baseline_write"]));
+    }
 
     println!("\n| bytes | proved | baseline | ratio |\n|---|---|---|---|");
     print_row("axis", (AXIS_WORDS * size_of::<u32>()) as f64, size_of::<baseline::Axis>() as f64);

@@ -6,7 +6,7 @@ use std::io;
 
 use bench::baseline::Axis;
 use bench::lines::tick;
-use bench::rows::{rows, then, Row, FIELDS, SHEET};
+use bench::rows::{rows, then, Row, FIELDS, SHEET, TOURING_FIELDS, TOURING_SHEET};
 use bench::words::{baseline_fresh, baseline_tick, baseline_word, baseline_write, event, settings, Event, AXIS_WORDS, WIDTH};
 
 // As c/axis.h has them.
@@ -15,7 +15,7 @@ extern "C" {
     fn axis_fresh(axis: *mut u32);
     fn axis_word(axis: *mut u32, word: u32) -> u32;
     fn axis_tick(axis: *mut u32, event: *const u32, floats: *const f32, answer: *mut u32) -> u32;
-    fn axis_write(fields: *const u32, buffer: *mut u32, length: u64) -> u32;
+    fn axis_write(layout: u32, fields: *const u32, buffer: *mut u32, length: u64) -> u32;
 }
 
 /// What lent words hold before a call.
@@ -72,19 +72,34 @@ macro_rules! callers {
     };
 }
 
-callers!(row0 row1 row2 row3 row4 row5 row6 row7 row8 row9 row10 row11 row12 row13 row14 row15 row16 row17);
+callers!(row0 row1 row2 row3 row4 row5 row6 row7 row8 row9 row10 row11 row12 row13 row14 row15 row16 row17 row18 row19 row20);
 
-#[inline(never)]
-fn write_both() {
-    let s = settings(&FIELDS);
+/// Has the settings written by both sides; the buffers agree, and begin with these words.
+#[inline(always)]
+fn write_both(layout: u32, fields: &[u32; 15], words: &[u32]) {
+    let s = settings(fields);
     let mut proved = [LENT; 20];
     let mut plain = proved;
     let numbers = unsafe {
-        (axis_write(FIELDS.as_ptr(), proved.as_mut_ptr(), proved.len() as u64), baseline_write(&s, plain.as_mut_ptr(), plain.len()))
+        (
+            axis_write(layout, fields.as_ptr(), proved.as_mut_ptr(), proved.len() as u64),
+            baseline_write(layout, &s, plain.as_mut_ptr(), plain.len()),
+        )
     };
     assert_eq!(numbers, (0, 0));
     assert_eq!(proved, plain);
-    assert_eq!(proved[..15], SHEET);
+    assert_eq!(proved[..words.len()], *words);
+}
+
+/// A caller a layout, so that callgrind tells them apart.
+#[inline(never)]
+fn write_layout_1() {
+    write_both(1, &FIELDS, &SHEET)
+}
+
+#[inline(never)]
+fn write_layout_2() {
+    write_both(2, &TOURING_FIELDS, &TOURING_SHEET)
 }
 
 /// The words and ticks of a script; its other lines are left out.
@@ -106,7 +121,8 @@ fn main() -> io::Result<()> {
     let mut rows = Vec::from(rows());
     rows.push(Row { before: Vec::new(), counted: script()? });
     run_rows(&rows);
-    write_both();
+    write_layout_1();
+    write_layout_2();
     for row in &rows {
         println!("{}", row.counted.len());
     }

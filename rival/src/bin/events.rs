@@ -33,26 +33,9 @@ fn tick(t: &Tick) -> Vec<u32> {
     words.into_iter().chain(floats.map(f32::to_bits)).collect()
 }
 
-/// The buffer's length, and the fields: each was read within 32 bits, so none is cut down.
-fn sheet(length: usize, s: &Settings) -> Vec<u32> {
-    let fields = [
-        s.method,
-        s.fast,
-        s.slow,
-        s.offset,
-        s.numerator,
-        s.denominator,
-        s.lower_stop,
-        s.upper_stop,
-        s.maximum_torque,
-        s.positive_1,
-        s.negative_1,
-        s.positive_2,
-        s.negative_2,
-        s.quick_stop_option,
-        s.rated_torque,
-    ];
-    [length as u32].into_iter().chain(fields.map(|field| field as u32)).collect()
+/// The fields: each was read within 32 bits, so none is cut down.
+fn fields(s: &Settings) -> [u32; 15] {
+    s.values().map(|value| value as u32)
 }
 
 fn main() -> io::Result<()> {
@@ -63,7 +46,10 @@ fn main() -> io::Result<()> {
             Ok(Line::Fresh) => ("fresh", Vec::new()),
             Ok(Line::Word(word)) => ("word", vec![word]),
             Ok(Line::Tick(t)) => ("tick", tick(&t)),
-            Ok(Line::Sheet { length, settings }) => ("sheet", sheet(length, &settings)),
+            Ok(Line::Sheet { length, settings }) => ("sheet", [&[length as u32], &fields(&settings)[..]].concat()),
+            Ok(Line::Layout { layout, length, settings }) => {
+                ("layout", [&[layout, length as u32], &fields(&settings)[..]].concat())
+            }
             Ok(Line::Blank) | Err(_) => continue,
         };
         write!(output, "{keyword}")?;

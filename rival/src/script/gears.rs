@@ -3,12 +3,12 @@
 use std::io::Write;
 use std::ops::RangeInclusive;
 
-use super::sheets::{is_acceptable, sheet_s, PLACE};
+use super::sheets::{is_acceptable, sheet_s, LONG_PLACE, PLACE};
 use super::Script;
 use crate::writer::Settings;
 
 /// The products nearest to the edges of 32 bits, on either side of each, and their prime factors. 2^31 − 1 is a prime and
-/// 2^31 + 1 three times a prime: no difference below 2^28 times a numerator of at most 2^20 makes either.
+/// 2^31 + 1 three times a prime: only a difference on a long rail makes either.
 const NEAREST: [(i64, &[i64]); 4] = [
     ((1 << 31) - 2, &[2, 3, 3, 7, 11, 31, 151, 331]),
     (1 << 31, &[2; 31]),
@@ -16,7 +16,7 @@ const NEAREST: [(i64, &[i64]); 4] = [
     (-(1 << 31) - 2, &[2, 5, 5, 13, 41, 61, 1321]),
 ];
 
-/// The least numerator with which a product can be too wide.
+/// The least numerator with which a product of a difference below 2^28 can be too wide.
 const WIDENING: i64 = 9;
 
 /// The last difference above zero that is narrow with this numerator, and the last below zero.
@@ -81,11 +81,12 @@ impl<W: Write> Script<W> {
     ) {
         let towards = if away { difference.signum() } else { -difference.signum() };
         loop {
-            let offset = self.random.between((-PLACE).max(-PLACE - difference), (PLACE - 1).min(PLACE - 1 - difference));
+            let place = self.random.pick(&[PLACE, LONG_PLACE]);
+            let offset = self.random.between((-place).max(-place - difference), (place - 1).min(place - 1 - difference));
             let stop = offset + difference;
             let any = self.random.between(1, 2 * difference.abs());
             let width = self.random.pick(&[4, any, any]);
-            let other = (stop + width * towards).clamp(-PLACE, PLACE - 1);
+            let other = (stop + width * towards).clamp(-place, place - 1);
             let Some(denominator) = denominator(self) else {
                 continue;
             };
@@ -138,7 +139,7 @@ impl<W: Write> Script<W> {
 
     /// Targets at these differences from the offset, on, beside and beyond the stops, around the last narrow ones, on
     /// the offset, and anywhere.
-    fn follow_under(&mut self, settings: &Settings, differences: &[i64]) {
+    pub(super) fn follow_under(&mut self, settings: &Settings, differences: &[i64]) {
         let home = self.any_home();
         self.home_under(settings, home);
         let (lower, upper) = (settings.lower_stop, settings.upper_stop);
@@ -148,6 +149,7 @@ impl<W: Write> Script<W> {
         targets.retain(|target| (lower..=upper).contains(target));
         let inside = self.random.between(lower, upper);
         targets.extend([lower - 1, lower, lower + 1, inside, upper - 1, upper, upper + 1, settings.offset]);
+        targets.retain(|target| (-LONG_PLACE..LONG_PLACE).contains(target));
         targets.extend([i32::MIN, i32::MAX].map(i64::from));
         targets.sort_unstable();
         targets.dedup();

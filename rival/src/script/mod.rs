@@ -2,6 +2,7 @@
 
 mod gears;
 mod homing;
+mod layouts;
 mod sheets;
 mod states;
 mod targets;
@@ -85,6 +86,10 @@ enum Scene {
     Torn,
     Reach,
     Live,
+    LayoutLines,
+    LayoutWords,
+    LiveLayouts,
+    LongRails,
     TakeOverAnywhere,
     Unreadables,
     Wander,
@@ -109,6 +114,10 @@ fn scenes() -> Vec<Scene> {
         Scene::Torn,
         Scene::Reach,
         Scene::Live,
+        Scene::LayoutLines,
+        Scene::LayoutWords,
+        Scene::LiveLayouts,
+        Scene::LongRails,
         Scene::TakeOverAnywhere,
         Scene::Unreadables,
         Scene::Wander,
@@ -189,6 +198,10 @@ impl<W: Write> Script<W> {
             Scene::Torn => self.torn_sheets(),
             Scene::Reach => self.reaches(),
             Scene::Live => self.live_sheets(),
+            Scene::LayoutLines => self.layout_lines(),
+            Scene::LayoutWords => self.layout_words(),
+            Scene::LiveLayouts => self.live_layouts(),
+            Scene::LongRails => self.long_rails(),
             Scene::TakeOverAnywhere => self.take_over_anywhere(),
             Scene::Unreadables => self.unreadables(),
             Scene::Wander => self.wander(),

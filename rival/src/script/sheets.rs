@@ -6,7 +6,7 @@ use super::Script;
 use crate::drive_state::DriveState::*;
 use crate::homing::{Way, METHODS};
 use crate::random::Random;
-use crate::sheet::{self, KINDS, LENGTH};
+use crate::sheet::{self, LAYOUTS, LONGEST};
 use crate::writer::{self, Settings};
 
 /// Sheet S of the paper.
@@ -37,8 +37,11 @@ struct Edge {
     most: i64,
 }
 
-/// Offset and stops lie from minus this to one below this.
+/// In layout 1 offset and stops lie from minus this to one below this.
 pub(super) const PLACE: i64 = 1 << 27;
+
+/// In layout 2 they do so with this.
+pub(super) const LONG_PLACE: i64 = 1 << 31;
 
 const EDGES: [Edge; 15] = [
     Edge { field: |s| &mut s.method, least: 1, most: 35 },
@@ -61,13 +64,19 @@ const EDGES: [Edge; 15] = [
 /// Where the methods that a sheet may hold have gaps, the numbers on either side of the gap's edges.
 const INNER_EDGES: [u32; 12] = [2, 3, 16, 17, 18, 19, 22, 23, 30, 31, 32, 33];
 
-fn words_of(settings: &Settings) -> [u32; LENGTH] {
-    settings.words().expect("the scene's settings are in range")
+/// The words of settings in a layout that holds them.
+pub(super) fn words_in(layout: u32, settings: &Settings) -> Vec<u32> {
+    settings.words(layout).expect("the scene's settings are in range")
+}
+
+/// As a `sheet` line has them.
+pub(super) fn values_of(settings: &Settings) -> String {
+    settings.values().map(|value| value.to_string()).join(" ")
 }
 
 /// In range, the stops sound.
 pub(super) fn is_acceptable(settings: &Settings) -> bool {
-    writer::write(settings, &mut [0; LENGTH]).is_ok()
+    writer::write(2, settings, &mut [0; LONGEST]).is_ok()
 }
 
 /// Every field at its least or its most, but for the stops: they lie at either end, so as not to cross.
@@ -92,6 +101,7 @@ impl<W: Write> Script<W> {
             };
             let any = random.between(1, 1 << 20);
             let (numerator, denominator) = random.pick(&[
+                (1, 4),
                 (3, 2),
                 (1, 1),
                 (1, 3),
@@ -102,7 +112,7 @@ impl<W: Write> Script<W> {
                 (any, 1000),
                 (1 << 20, 3),
             ]);
-            let width = random.pick(&[50, 1000, 1000, 100_000, (1 << 27) - 1]);
+            let width = random.pick(&[50, 1000, 1000, 100_000, PLACE - 1, 1 << 29, LONG_PLACE - 1]);
             let fast = random.between(1, (1 << 28) - 1);
             let settings = Settings {
                 method: i64::from(random.pick(&METHODS)),
@@ -133,17 +143,28 @@ impl<W: Write> Script<W> {
         }
     }
 
+    /// The words of settings, in any layout that holds them.
+    pub(super) fn words_of(&mut self, settings: &Settings) -> Vec<u32> {
+        let layout = if settings.is_long() { 2 } else { self.random.pick(&LAYOUTS) };
+        words_in(layout, settings)
+    }
+
     /// Leaves the live states, then says the sheet's words, now and then with a tick between two.
     pub(super) fn take_over(&mut self, settings: &Settings) {
+        let words = self.words_of(settings);
+        self.take_over_words(&words);
+    }
+
+    pub(super) fn take_over_words(&mut self, words: &[u32]) {
         for _ in 0..5 {
             if !self.state().is_live() {
                 break;
             }
             self.tick_with(0x0000, "rest", false);
         }
-        let between = if self.random.once_in(4) { self.random.between(0, 14) } else { 15 };
-        for (place, word) in words_of(settings).into_iter().enumerate() {
-            if place as i64 == between {
+        let between = self.random.once_in(4).then(|| self.random.between(0, words.len() as i64 - 1) as usize);
+        for (place, &word) in words.iter().enumerate() {
+            if Some(place) == between {
                 self.tick_with(0x0000, "rest", false);
             }
             self.word(word);
@@ -155,10 +176,20 @@ impl<W: Write> Script<W> {
         self.take_over(&settings);
     }
 
-    fn writer(&mut self, length: i64, settings: &Settings) {
-        let mut settings = settings.clone();
-        let values: Vec<String> = EDGES.iter().map(|edge| (edge.field)(&mut settings).to_string()).collect();
-        self.line(&format!("sheet {length} {}", values.join(" ")));
+    /// By either line where layout 1 is asked.
+    pub(super) fn writer(&mut self, layout: u32, length: i64, settings: &Settings) {
+        let values = values_of(settings);
+        if layout == 1 && self.random.once_in(2) {
+            self.line(&format!("sheet {length} {values}"));
+        } else {
+            self.line(&format!("layout {layout} {length} {values}"));
+        }
+    }
+
+    /// The writer in either layout, with so many words more than it needs.
+    fn write_any(&mut self, more: i64, settings: &Settings) {
+        let layout = self.random.pick(&LAYOUTS);
+        self.writer(layout, words_in(layout, &sheet_s()).len() as i64 + more, settings);
     }
 
     /// Each field at its edges, one past them, and far out; then stops crossed and out of reach.
@@ -176,26 +207,26 @@ impl<W: Write> Script<W> {
                 let mut settings = sheet_s();
                 settings.denominator = 1000;
                 *(edge.field)(&mut settings) = value;
-                let length = self.random.pick(&[15, 15, 15, 16, 14]);
-                self.writer(length, &settings);
+                let more = self.random.pick(&[0, 0, 0, 1, -1]);
+                self.write_any(more, &settings);
             }
         }
         for least in [true, false] {
-            self.writer(15, &at_edge(least));
+            self.write_any(0, &at_edge(least));
         }
         for (lower, upper) in [(5, 5), (6, 5), (-5, -5), (5, 6)] {
             let mut settings = sheet_s();
             (settings.lower_stop, settings.upper_stop) = (lower, upper);
-            self.writer(15, &settings);
+            self.write_any(0, &settings);
         }
         for (offset, numerator, denominator, lower, upper) in REACHES {
-            self.writer(17, &Settings { offset, numerator, denominator, lower_stop: lower, upper_stop: upper, ..sheet_s() });
+            self.write_any(2, &Settings { offset, numerator, denominator, lower_stop: lower, upper_stop: upper, ..sheet_s() });
         }
         for method in INNER_EDGES {
-            self.writer(15, &Settings { method: i64::from(method), ..sheet_s() });
+            self.write_any(0, &Settings { method: i64::from(method), ..sheet_s() });
         }
         for quick_stop_option in [3, 5, 0] {
-            self.writer(15, &Settings { quick_stop_option, ..sheet_s() });
+            self.write_any(0, &Settings { quick_stop_option, ..sheet_s() });
         }
     }
 
@@ -206,7 +237,7 @@ impl<W: Write> Script<W> {
                 1 => self.any_settings(),
                 _ => sheet_s(),
             };
-            self.writer(length, &settings);
+            self.line(&format!("sheet {length} {}", values_of(&settings)));
         }
     }
 
@@ -214,7 +245,7 @@ impl<W: Write> Script<W> {
     pub(super) fn word_edges(&mut self) {
         self.reach(SwitchOnDisabled);
         for least in [true, false] {
-            self.words(&words_of(&at_edge(least)));
+            self.words(&words_in(1, &at_edge(least)));
         }
         let methods = [&[0, 36], &INNER_EDGES[..]].concat().into_iter().map(|method| (sheet::METHOD, method));
         for (kind, data) in methods.chain([
@@ -235,74 +266,82 @@ impl<W: Write> Script<W> {
             (sheet::QUICK_STOP_OPTION, 7),
             (sheet::RATED_TORQUE, 0),
             (sheet::RATED_TORQUE, (1 << 24) + 1),
-            (sheet::START, 0),
-            (sheet::START, 2),
-            (sheet::LOWER_STOP, (1 << 27) - 1),
-            (sheet::UPPER_STOP, 1 << 27),
         ]) {
-            let place = kind as usize;
-            let right = words_of(&sheet_s());
-            self.words(&right[..place]);
-            self.word(sheet::word(kind, data));
-            self.word(right[place]); // too late: the unfinished sheet is emptied
+            let right = self.words_of(&sheet_s());
+            self.one_wrong(&right, kind, data);
         }
+        for (kind, data) in [(sheet::LOWER_STOP, (1 << 27) - 1), (sheet::UPPER_STOP, 1 << 27)] {
+            self.one_wrong(&words_in(1, &sheet_s()), kind, data);
+        }
+    }
+
+    /// Words up to this kind, whose word has other data; then the right one.
+    pub(super) fn one_wrong(&mut self, right: &[u32], kind: u32, data: u32) {
+        let place = kind as usize;
+        self.words(&right[..place]);
+        self.word(sheet::word(kind, data));
+        self.word(right[place]); // too late: the unfinished sheet is emptied
     }
 
     /// Words lost, doubled, flipped and begun afresh.
     pub(super) fn torn_sheets(&mut self) {
         self.take_over_any();
         let settings = self.any_settings();
-        let words = words_of(&settings);
-        let lost = self.random.between(1, 13) as usize;
+        let words = self.words_of(&settings);
+        let end = words.len() - 1;
+        let inner = (1, end as i64 - 1);
+        let lost = self.random.between(inner.0, inner.1) as usize;
         self.words(&words[..lost]);
         self.words(&words[lost + 1..]);
         self.words(&words[..lost]);
         self.word(words[lost + 1]);
         self.words(&words[lost..]); // the one that was due, too late
-        let doubled = self.random.between(1, 13) as usize;
+        let doubled = self.random.between(inner.0, inner.1) as usize;
         self.words(&words[..=doubled]);
         self.word(words[doubled]);
-        let flipped = self.random.between(0, 14) as usize;
+        let flipped = self.random.between(0, end as i64) as usize;
         let bit = self.random.between(0, 31);
         for (place, &word) in words.iter().enumerate() {
             self.word(if place == flipped { word ^ 1 << bit } else { word });
         }
-        self.words(&words[..14]);
+        self.words(&words[..end]);
         let bit = self.random.between(0, 27);
-        self.word(words[14] ^ 1 << bit); // bad sum
-        self.word(words[14]); // the right one, too late
-        let halfway = self.random.between(1, 13) as usize;
+        self.word(words[end] ^ 1 << bit); // bad sum
+        self.word(words[end]); // the right one, too late
+        let halfway = self.random.between(inner.0, inner.1) as usize;
         self.words(&words[..halfway]);
         self.tick();
         self.words(&words); // a start word halfway
         self.words(&words[..3]);
-        self.word(0x0000_0002);
+        self.word(sheet::word(sheet::START, 3));
         self.words(&words[3..5]);
-        self.words(&words[..14]);
-        self.word(sheet::word(14, 0)); // no word has kind 14
         self.words(&words[..5]);
-        self.word(words[14]); // the end too early
-        for kind in KINDS {
+        self.word(words[end]); // the end too early
+        for kind in 0..=15 {
             let rubbish = self.random.bits() as u32 & sheet::DATA;
             self.word(sheet::word(kind, rubbish));
-            // rubbish
         }
         self.tick();
     }
 
-    /// Stops just in reach, just out of it, and crossed.
+    /// Stops just in reach, just out of it, and crossed; the layouts take turns, so that each is refused in both.
     pub(super) fn reaches(&mut self) {
         self.reach(SwitchOnDisabled);
-        for (offset, numerator, denominator, lower_stop, upper_stop) in REACHES {
-            let settings = Settings { offset, numerator, denominator, lower_stop, upper_stop, ..sheet_s() };
-            let words = words_of(&settings);
+        let mut layouts = LAYOUTS;
+        self.random.shuffle(&mut layouts);
+        let far = REACHES.map(|(offset, numerator, denominator, lower_stop, upper_stop)| Settings {
+            offset,
+            numerator,
+            denominator,
+            lower_stop,
+            upper_stop,
+            ..sheet_s()
+        });
+        let crossed = [7, 6].map(|upper_stop| Settings { lower_stop: 7, upper_stop, ..sheet_s() });
+        for (settings, layout) in far.iter().chain(&crossed).zip(layouts.into_iter().cycle()) {
+            let words = words_in(layout, settings);
             self.words(&words);
-            self.word(words[14]); // once more: out of turn, refused before or not
-        }
-        for upper_stop in [7, 6] {
-            let words = words_of(&Settings { lower_stop: 7, upper_stop, ..sheet_s() });
-            self.words(&words);
-            self.word(words[14]);
+            self.word(words[words.len() - 1]); // once more: out of turn, refused before or not
         }
         self.tick();
     }
@@ -310,25 +349,27 @@ impl<W: Write> Script<W> {
     /// A sheet that ends while the axis is live is refused; what is wrong with its sum or stops is said first.
     pub(super) fn live_sheets(&mut self) {
         let sound = self.any_settings();
-        let crossed = Settings { lower_stop: 1, upper_stop: 0, ..sheet_s() };
+        let sound = self.words_of(&sound);
+        let end = sound.len() - 1;
+        let crossed = self.words_of(&Settings { lower_stop: 1, upper_stop: 0, ..sheet_s() });
         self.now.command = "torque 400".to_string();
         self.reach(OperationEnabled);
-        self.words(&words_of(&sound));
+        self.words(&sound);
         self.tick_with(0x000F, "torque 3000", false);
-        self.words(&words_of(&crossed));
-        self.words(&words_of(&sound)[..14]);
+        self.words(&crossed);
+        self.words(&sound[..end]);
         self.word(sheet::word(sheet::END, 0));
         self.reach(QuickStopActive);
-        self.words(&words_of(&sound));
+        self.words(&sound);
         self.tick_with(0x0002, "torque -3000", false);
         self.tick_with(0x0000, "rest", false);
-        self.word(words_of(&sound)[14]); // no longer live, but emptied
-                                         // Live when the words begin, no longer when they end.
+        self.word(sound[end]); // no longer live, but emptied
+
+        // Live when the words begin, no longer when they end.
         self.reach(OperationEnabled);
-        let words = words_of(&sound);
-        self.words(&words[..9]);
+        self.words(&sound[..9]);
         self.reach(SwitchedOn);
-        self.words(&words[9..]);
+        self.words(&sound[9..]);
         self.tick_with(0x000F, "torque 3000", true);
     }
 
@@ -346,7 +387,8 @@ impl<W: Write> Script<W> {
                 _ => {}
             }
             self.reach(state);
-            let words = words_of(&self.any_settings());
+            let settings = self.any_settings();
+            let words = self.words_of(&settings);
             self.words(&words);
             self.tick_with(0x0000, "homing 0", true);
         }
@@ -357,7 +399,7 @@ impl<W: Write> Script<W> {
     fn remember_across(&mut self) {
         self.reach(SwitchedOn);
         self.tick_with(0x0017, "homing 0", true);
-        let words = words_of(&Settings { method: 35, ..sheet_s() });
+        let words = self.words_of(&Settings { method: 35, ..sheet_s() });
         self.words(&words);
         self.tick_with(0x001F, "homing 0", true);
         self.reach(Fault);

@@ -94,6 +94,11 @@ impl<W: Write> Script<W> {
     /// Takes the settings over, but for the method, and is homed by method 35.
     pub(super) fn home_under(&mut self, settings: &Settings, home: i32) {
         self.take_over(&Settings { method: 35, ..settings.clone() });
+        self.home_at(home);
+    }
+
+    /// By method 35, which is in force.
+    pub(super) fn home_at(&mut self, home: i32) {
         self.now.command = "position 1 0".to_string();
         self.reach(OperationEnabled);
         self.tick_with(0x000F, "position 5 0", true); // not homed
@@ -111,7 +116,7 @@ impl<W: Write> Script<W> {
             let (lower, upper) = (settings.lower_stop, settings.upper_stop);
             let inside = self.random.between(lower, upper);
             let targets = [5, -5, lower - 1, lower, lower + 1, upper - 1, upper, upper + 1, inside, 1001, 1000];
-            for target in targets {
+            for target in targets.into_iter().filter(|&target| i32::try_from(target).is_ok()) {
                 let request = self.random.between(-32768, 32767);
                 self.move_by(1);
                 self.tick_with(0x000F, &format!("position {target} {request}"), true);

@@ -13,8 +13,12 @@ const TICK_HOMING: &str = "tick 1f homing 32767 at -2147483648 -N-Z still set1 0
 const WORD: &str = "word 00000001";
 const SHEET: &str = "sheet 15 23 20000 1000 0 3 2 -1000 1000 1000 800 600 300 300 2 2000";
 
+const LAYOUT: &str = "layout 2 16 23 20000 1000 0 3 2 -2147483648 2147483647 1000 800 600 300 300 2 2000";
+
+const LINES: [&str; 7] = [TICK, TICK_HYBRID, TICK_POSITION, TICK_HOMING, WORD, SHEET, LAYOUT];
+
 /// A line, the place of one of its words, and words that are not accepted there.
-const WRONG: [(&str, usize, &[&str]); 17] = [
+const WRONG: [(&str, usize, &[&str]); 20] = [
     (TICK, 0, &["Tick", "ticks", "help", "\u{0}tick", "tick\u{b5}", "tick\r", "-", "TICK"]),
     (WORD, 1, &["0000000g", "123456789", "0x1", "-1", "000000001", "1h"]),
     (TICK, 1, &["00006", "12345", "xyz", "-6", "+6", "6."]),
@@ -32,14 +36,17 @@ const WRONG: [(&str, usize, &[&str]); 17] = [
     (TICK_HYBRID, 9, &["x7f80000", "x7f8000000", "X3f800000", "-x3f800000", "0x3f800000", "x3f80000g", "x", "--1", "1,5", "."]),
     (SHEET, 1, &["33", "-1", "-0", "4294967296", "99999999999", "00000000015", "fifteen"]),
     (SHEET, 2, &["-1", "-0", "4294967296", "23.0", "+23"]),
+    (LAYOUT, 0, &["Layout", "layouts", "layou", "LAYOUT"]),
+    (LAYOUT, 1, &["-1", "-0", "4294967296", "00000000002", "two", "+2", "0x2", "2.0"]),
+    (LAYOUT, 2, &["33", "-1", "4294967296", "x"]),
 ];
 
-/// Signed and unsigned places further on in a `sheet` line.
+/// Signed and unsigned places further on in a `sheet` line, and one further in a `layout` line.
 const WRONG_SETTINGS: [(usize, &str); 6] =
     [(5, "2147483648"), (5, "-2147483649"), (8, "-99999999999"), (9, "4294967296"), (10, "-5"), (16, "18446744073709551616")];
 
 /// Lines that look odd and are read all the same, by what the layout says.
-const ODD: [&[u8]; 12] = [
+const ODD: [&[u8]; 15] = [
     b"",
     b" ",
     b"\t \t",
@@ -50,6 +57,9 @@ const ODD: [&[u8]; 12] = [
     b"sheet 0000000003 0 0 0 0 0 0 0 0 0 0 0 0 0 0 0",
     b"sheet 15 4294967295 4294967295 4294967295 2147483647 4294967295 4294967295 -2147483648 2147483647 4294967295 1 2 3 4 5 6#x",
     b"sheet 32 35 268435455 1 -134217728 1048576 1048576 -134217728 134217727 3000 3000 3000 3000 3000 6 16777216",
+    b"layout 4294967295 0 0 0 0 0 0 0 0 0 0 0 0 0 0 0 0",
+    b"layout\t0000000002 0000000016 35 1 1 -0 1 4 -2147483648 2147483647 0 0 0 0 0 2 1 # long",
+    b"layout 1 32 35 1 1 -134217729 1 4 -2147483648 2147483647 0 0 0 0 0 2 1",
     b"\r",
     b"\x0b",
 ];
@@ -120,8 +130,9 @@ impl<W: Write> Script<W> {
         }
         for (place, wrong) in WRONG_SETTINGS {
             self.wrong_word(SHEET, place, wrong);
+            self.wrong_word(LAYOUT, place + 1, wrong);
         }
-        for line in [TICK, TICK_HYBRID, TICK_POSITION, TICK_HOMING, WORD, SHEET] {
+        for line in LINES {
             for words in 1..line.split(' ').count() {
                 if line == TICK || line == WORD || self.random.once_in(3) {
                     self.cut_short(line, words);
@@ -132,6 +143,9 @@ impl<W: Write> Script<W> {
         self.cut_short(TICK_POSITION, 3);
         self.cut_short(TICK_HYBRID, 3);
         self.cut_short(SHEET, 1);
+        for words in [1, 2, 3, 17] {
+            self.cut_short(LAYOUT, words);
+        }
         self.one_too_many("fresh");
         for odd in ODD {
             let end = self.random.pick(&[&b"\n"[..], b"\r\n"]);
@@ -151,7 +165,7 @@ impl<W: Write> Script<W> {
 
     /// Any one of them.
     pub(super) fn weird_line(&mut self) {
-        let line = self.random.pick(&[TICK, TICK_HYBRID, TICK_POSITION, TICK_HOMING, WORD, SHEET]);
+        let line = self.random.pick(&LINES);
         let count = line.split(' ').count() as i64;
         match self.random.between(0, 6) {
             0 => {

@@ -1,10 +1,10 @@
 //! Followed targets by the gear they take.
 
 use super::Tally;
-use crate::sheet::Sheet;
+use crate::sheet::{is_long, Sheet};
 
 /// The last difference that is narrow and the first that is wide, above zero and below; and the product nearest to the edge
-/// that any sheet allows.
+/// that places of 28 bits allow.
 pub(super) const EDGES: [(&str, i64); 4] = [
     ("narrow gear, last above zero", (1 << 31) - 2),
     ("wide gear, first above zero", 1 << 31),
@@ -38,6 +38,35 @@ pub(super) const BY_BOTH: [&str; 12] = [
     "denominator 2^20",
     "target less offset above 32 bits, clamped",
     "target less offset below 32 bits, clamped",
+];
+
+/// What only places beyond 28 bits allow.
+pub(super) const ON_LONG_RAILS: [&str; 25] = [
+    "narrow gear: product 2^31 - 1",
+    "narrow gear: difference -2^31",
+    "narrow gear: offset and both stops long",
+    "wide gear: offset and both stops long",
+    "wide gear: product -2^31 - 1, its difference fits",
+    "wide gear: product -2^31 - 1, its difference does not",
+    "wide gear: difference 2^31",
+    "wide gear: difference 2^32 - 1",
+    "wide gear: difference -2^32 + 1",
+    "wide gear: difference beyond 32 bits: exact above zero",
+    "wide gear: difference beyond 32 bits: exact below zero",
+    "wide gear: difference beyond 32 bits: rounded above zero",
+    "wide gear: difference beyond 32 bits: rounded below zero",
+    "wide gear: difference beyond 32 bits: its low half 0",
+    "gear 1 to 1: count 2^30",
+    "gear 1 to 1: count -2^30",
+    "gear 1 to 2: count 2^30",
+    "gear 1 to 4: count 2^30 - 1",
+    "gear 1 to 4: count -2^30",
+    "long target: -2^31 not clamped",
+    "long target: 2^31 - 1 not clamped",
+    "long target: between the stops",
+    "long target: clamped to a long lower stop",
+    "long target: clamped to a long upper stop",
+    "long target: clamped to a stop with the same low 28 bits",
 ];
 
 fn fits(number: i64) -> bool {
@@ -85,6 +114,8 @@ impl Tally {
             self.saw_if(alike, &format!("wide gear: the low half is {side} zero as well"));
         }
 
+        self.saw_rail(sheet, target);
+
         let outwards = difference.signum() * numerator;
         if narrow != fits(if narrow { product + outwards } else { product - outwards }) {
             let which = if narrow { "last" } else { "first" };
@@ -97,5 +128,50 @@ impl Tally {
             let nearest = EDGES.contains(&(&edge[..], product));
             self.saw_if(nearest, &format!("{edge}: the product nearest to the edge"));
         }
+    }
+
+    /// The same where offset, stops or target are beyond 28 bits.
+    fn saw_rail(&mut self, sheet: &Sheet, target: i64) {
+        let [offset, lower, upper, numerator, denominator] =
+            [sheet.offset(), sheet.lower_stop(), sheet.upper_stop(), sheet.numerator(), sheet.denominator()].map(i64::from);
+        let place = target.clamp(lower, upper);
+        let difference = place - offset;
+        let product = difference * numerator;
+        let (count, exact) = (product.div_euclid(denominator), product % denominator == 0);
+
+        let gear = if fits(difference) && fits(product) { "narrow gear" } else { "wide gear" };
+        let all_long = [offset, lower, upper].into_iter().all(is_long);
+        self.saw_if(all_long, &format!("{gear}: offset and both stops long"));
+        self.saw_if(product == (1 << 31) - 1, "narrow gear: product 2^31 - 1");
+        self.saw_if(difference == -(1 << 31) && numerator == 1, "narrow gear: difference -2^31");
+        if product == -(1 << 31) - 1 {
+            let does = if fits(difference) { "fits" } else { "does not" };
+            self.saw(&format!("wide gear: product -2^31 - 1, its difference {does}"));
+        }
+        self.saw_if(difference == 1 << 31, "wide gear: difference 2^31");
+        self.saw_if(difference == (1 << 32) - 1, "wide gear: difference 2^32 - 1");
+        self.saw_if(difference == 1 - (1 << 32), "wide gear: difference -2^32 + 1");
+        if !fits(difference) {
+            let side = if product > 0 { "above" } else { "below" };
+            let how = if exact { "exact" } else { "rounded" };
+            self.saw(&format!("wide gear: difference beyond 32 bits: {how} {side} zero"));
+            self.saw_if(product as i32 == 0, "wide gear: difference beyond 32 bits: its low half 0");
+        }
+        let ratio = |denominators: i64| numerator * denominators == denominator;
+        self.saw_if(ratio(1) && count == 1 << 30, "gear 1 to 1: count 2^30");
+        self.saw_if(ratio(1) && count == -(1 << 30), "gear 1 to 1: count -2^30");
+        self.saw_if(ratio(2) && count == 1 << 30, "gear 1 to 2: count 2^30");
+        self.saw_if(ratio(4) && count == (1 << 30) - 1, "gear 1 to 4: count 2^30 - 1");
+        self.saw_if(ratio(4) && count == -(1 << 30), "gear 1 to 4: count -2^30");
+        self.saw_if(place == -(1 << 31), "long target: -2^31 not clamped");
+        self.saw_if(place == (1 << 31) - 1, "long target: 2^31 - 1 not clamped");
+        self.saw_if(
+            place == target && is_long(target) && (lower + 1..upper).contains(&target),
+            "long target: between the stops",
+        );
+        self.saw_if(target < lower && is_long(lower), "long target: clamped to a long lower stop");
+        self.saw_if(target > upper && is_long(upper), "long target: clamped to a long upper stop");
+        let alike = place != target && (place - target) % (1 << 28) == 0;
+        self.saw_if(alike, "long target: clamped to a stop with the same low 28 bits");
     }
 }

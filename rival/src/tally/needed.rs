@@ -1,6 +1,7 @@
 //! Everything a script is to reach, by name.
 
-use super::gears::{BY_BOTH, EDGES as GEAR_EDGES, ON_EDGE};
+use super::gears::{BY_BOTH, EDGES as GEAR_EDGES, ON_EDGE, ON_LONG_RAILS};
+use super::layouts;
 use super::refused;
 use super::settings::{can_hold, EDGES, FIELDS, INNER_METHODS};
 use super::text::{EXPECTED, FLOAT_SHAPES};
@@ -46,7 +47,6 @@ const SINGLE: &[&str] = &[
     "word: refused, the earlier sheet stays",
     "word: bad sum said before axis live",
     "word: stops crossed said before axis live",
-    "word: kind 14",
     "word: end too early",
     "word: start halfway",
     "word: strange start halfway",
@@ -61,6 +61,7 @@ const SINGLE: &[&str] = &[
     "reach: only upper stop out",
     "writer: short buffer said before out of range",
     "writer: a value beyond 28 bits",
+    "writer: long value by a sheet line",
     "writer: a small field's value beyond 16 bits",
     "tick between the words of a sheet",
     "Fault: bit 7 rises, no alarm",
@@ -168,6 +169,7 @@ pub(super) fn names() -> Vec<String> {
     names.extend(commands());
     names.extend(homing());
     names.extend(gears());
+    names.extend(layouts::names());
     names
 }
 
@@ -192,7 +194,7 @@ fn texts() -> Vec<String> {
 
 fn refusals() -> Vec<String> {
     let by_word = [OutOfTurn, StrangeLayout, OutOfRange, BadSum, StopsCrossed, OutOfReach, AxisLive];
-    let by_writer = [ShortBuffer, OutOfRange, StopsCrossed, OutOfReach];
+    let by_writer = [StrangeLayout, ShortBuffer, LongValue, OutOfRange, StopsCrossed, OutOfReach];
     let mut names: Vec<String> = by_word.map(|refusal| refused("word", refusal)).into();
     names.extend(by_word.map(|refusal| format!("word: due before refusal {}, out of turn after it", refusal.number())));
     names.push(refused("tick", NoSheet));
@@ -288,5 +290,6 @@ fn gears() -> Vec<String> {
     for (edge, _) in GEAR_EDGES {
         names.extend(ON_EDGE.map(|what| format!("{edge}: {what}")));
     }
+    names.extend(ON_LONG_RAILS.map(String::from));
     names
 }

@@ -4,10 +4,10 @@ use super::{refused, Tally};
 use crate::gear;
 use crate::homing::Homing;
 use crate::refusal::Refusal;
-use crate::sheet::{self, Sheet, LENGTH};
+use crate::sheet::{self, Sheet};
 use crate::writer::{self, Settings};
 
-/// A setting, and the least and the most it may be.
+/// A setting, and the least and the most it may be; for places that is what layout 1 holds.
 pub(super) const FIELDS: [(&str, i64, i64); 15] = [
     ("method", 1, 35),
     ("fast", 1, (1 << 28) - 1),
@@ -26,34 +26,17 @@ pub(super) const FIELDS: [(&str, i64, i64); 15] = [
     ("rated torque", 1, 1 << 24),
 ];
 
-fn values(settings: &Settings) -> [i64; 15] {
-    [
-        settings.method,
-        settings.fast,
-        settings.slow,
-        settings.offset,
-        settings.numerator,
-        settings.denominator,
-        settings.lower_stop,
-        settings.upper_stop,
-        settings.maximum_torque,
-        settings.positive_1,
-        settings.negative_1,
-        settings.positive_2,
-        settings.negative_2,
-        settings.quick_stop_option,
-        settings.rated_torque,
-    ]
-}
-
-/// Which field of the sheet a word's data lies in, and its value; the limit sets hold two.
-fn carried(kind: u32, data: u32) -> Vec<(usize, i64)> {
+/// Which field of the sheet a word's data lies in, and its value; the limit sets hold two, and in layout 2 a place is no one
+/// word's.
+fn carried(layout: u32, kind: u32, data: u32) -> Vec<(usize, i64)> {
     let value = i64::from(data);
     match kind {
         sheet::METHOD..=sheet::SLOW | sheet::NUMERATOR | sheet::DENOMINATOR | sheet::MAXIMUM_TORQUE => {
             vec![(kind as usize - 1, value)]
         }
-        sheet::OFFSET | sheet::LOWER_STOP | sheet::UPPER_STOP => vec![(kind as usize - 1, sheet::signed(data).into())],
+        sheet::OFFSET | sheet::LOWER_STOP | sheet::UPPER_STOP if layout == 1 => {
+            vec![(kind as usize - 1, sheet::signed(data).into())]
+        }
         sheet::LIMIT_SET_1 => vec![(9, value & 0x3FFF), (10, value >> 14)],
         sheet::LIMIT_SET_2 => vec![(11, value & 0x3FFF), (12, value >> 14)],
         sheet::QUICK_STOP_OPTION => vec![(13, value)],
@@ -91,6 +74,7 @@ impl Tally {
     pub(super) fn saw_word(&mut self, word: u32) {
         let (kind, data, due) = (sheet::kind(word), sheet::data(word), self.axis.due());
         let (state, homing, earlier) = (self.axis.state(), self.axis.homing(), self.axis.sheet().copied());
+        let run = self.axis.unfinished().to_vec();
         let heard = self.axis.word(word);
         if let Err(refusal) = heard {
             self.saw(&refused("word", refusal));
@@ -103,12 +87,12 @@ impl Tally {
             self.saw_if(kind == was_due, &format!("word: due before refusal {}, out of turn after it", refusal.number()));
         }
         self.refused = heard.err().filter(|_| due != sheet::START).map(|refusal| (refusal, due));
-        self.saw_if(kind == 14, "word: kind 14");
+        self.saw_run(&run, word, heard);
         self.saw_if(kind == sheet::END && due != sheet::END, "word: end too early");
         self.saw_if(heard.is_ok() && kind == sheet::START && due != sheet::START, "word: start halfway");
         self.saw_if(heard.is_err() && kind == sheet::START && due != sheet::START, "word: strange start halfway");
         if kind == due {
-            for (field, value) in carried(kind, data) {
+            for (field, value) in carried(run.first().map_or(0, |&start| sheet::data(start)), kind, data) {
                 self.saw_value("word", field, value);
             }
         }
@@ -117,9 +101,10 @@ impl Tally {
             self.saw(&format!("takeover in {state:?}"));
             self.saw_if(matches!(homing, Homing::Homed { .. }), "takeover clears homed");
             self.saw_if(homing == Homing::Error, "takeover clears homing error");
-            let whole: u64 = sheet.words()[..LENGTH - 1].iter().map(|&word| u64::from(sheet::data(word))).sum();
+            let whole: u64 = sheet.summed().map(u64::from).sum();
             self.saw_if(whole > u64::from(sheet::DATA), "takeover with a sum beyond 28 bits");
             self.saw_reach(&sheet);
+            self.saw_layout(&sheet, earlier.as_ref());
         }
     }
 
@@ -136,24 +121,23 @@ impl Tally {
         self.saw_if(gear::counts(sheet, sheet.upper_stop()) == 1 << 30, "reach: upper stop at its last count");
     }
 
-    pub(super) fn saw_writer(&mut self, length: usize, settings: &Settings) {
-        self.saw(&format!("writer: buffer of {length}"));
+    pub(super) fn saw_writer(&mut self, layout: u32, length: usize, settings: &Settings) {
         let mut buffer = vec![0; length];
-        let written = writer::write(settings, &mut buffer);
+        let written = writer::write(layout, settings, &mut buffer);
         if let Err(refusal) = written {
             self.saw(&refused("writer", refusal));
             self.saw_if(
-                refusal == Refusal::ShortBuffer && settings.words().is_none(),
+                refusal == Refusal::ShortBuffer && settings.words(2).is_none(),
                 "writer: short buffer said before out of range",
             );
         }
-        for (field, value) in values(settings).into_iter().enumerate() {
+        for (field, value) in settings.values().into_iter().enumerate() {
             self.saw_value("writer", field, value);
             self.saw_if(!(-(1 << 27)..1 << 28).contains(&value), "writer: a value beyond 28 bits");
             self.saw_if(value > 0xFFFF && FIELDS[field].2 <= 3000, "writer: a small field's value beyond 16 bits");
         }
-        if let (Err(Refusal::OutOfReach), Some(words)) = (written, settings.words()) {
-            let sheet = Sheet::of(words);
+        if let (Err(Refusal::OutOfReach), Some(words)) = (written, settings.words(layout)) {
+            let sheet = Sheet::of(&words);
             let lower = gear::counts(&sheet, sheet.lower_stop()).abs() > 1 << 30;
             self.saw(if lower { "reach: lower stop out" } else { "reach: only upper stop out" });
         }

@@ -78,11 +78,12 @@ impl Tally {
         }
         match read {
             Err(Unreadable::TooLong) => self.saw("unreadable: line too long"),
-            Err(Unreadable::Expected { column, what }) => {
+            Err(unreadable @ Unreadable::Expected { column, what }) => {
                 let bytes = bytes(text).unwrap_or_default();
                 let before = bytes.split(|&byte| byte == b'#').next().unwrap_or_default();
                 let how = if *column > before.len() { "missing" } else { "wrong" };
                 self.saw(&format!("unreadable: {what}, {how}"));
+                self.saw_unreadable_layout(before, unreadable);
             }
             Ok(_) => {}
         }
