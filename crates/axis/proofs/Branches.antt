@@ -224,11 +224,11 @@ nothing-set {s} e = true≢false (ap isNothing e)
     isNothing (Set s) = false
 
 -- a tick under the settings of the words, and a refused one, of the whole axis
-pub ticked : (l : List ℕ) (t : Tick) (m : List ℕ) (a : Answer) → not (eqb (wordAt l 0) 0) ≡ true → Runs l t m a → TickCall l t m a
+pub ticked : (l : List ℕ) (t : Tick) (m : List ℕ) (a : Answer) → not (eqb (wordAt l 8) 0) ≡ true → Runs l t m a → TickCall l t m a
 unfolding tickOf axisIn activeIn
-ticked l t m a e c = go (eqb (wordAt l 0) 0) refl e
+ticked l t m a e c = go (eqb (wordAt l 8) 0) refl e
   where
-    go : (b : Bool) → eqb (wordAt l 0) 0 ≡ b → not b ≡ true → TickCall l t m a
+    go : (b : Bool) → eqb (wordAt l 8) 0 ≡ b → not b ≡ true → TickCall l t m a
     go true q n = absurd (true≢false (sym n))
     go false q n =
         let u : activeIn l ≡ Set (settingsIn l) = rw q in
@@ -239,10 +239,10 @@ ticked l t m a e c = go (eqb (wordAt l 0) 0) refl e
           refused = λ x. absurd (nothing-set (sym x ∙ u));
         }
 
-pub refused-tick : (l : List ℕ) (t : Tick) (a : Answer) → not (eqb (wordAt l 0) 0) ≡ false → a ≡ refusedAnswer NoSettings → TickCall l t l a
+pub refused-tick : (l : List ℕ) (t : Tick) (a : Answer) → not (eqb (wordAt l 8) 0) ≡ false → a ≡ refusedAnswer NoSettings → TickCall l t l a
 unfolding tickOf axisIn activeIn
-refused-tick l t a e f = go (eqb (wordAt l 0) 0) refl e
+refused-tick l t a e f = go (eqb (wordAt l 8) 0) refl e
   where
-    go : (b : Bool) → eqb (wordAt l 0) 0 ≡ b → not b ≡ false → TickCall l t l a
+    go : (b : Bool) → eqb (wordAt l 8) 0 ≡ b → not b ≡ false → TickCall l t l a
     go true q n = record { axis = rw q; answer = f ∙ rw q; kept = refl; refused = λ x. refl }
     go false q n = absurd (true≢false n)

@@ -2,19 +2,18 @@
 -- Assumes nothing.
 use Prim.Native.Nat.{ℕ, zero, suc, _+_, _<_, _≤_}
 use mathlib.Core.Path.{_≡_, refl, sym, ap, ap₂, _∙_}
-use mathlib.Core.Bool.{Bool, true, false, cond, true≢false}
+use mathlib.Core.Bool.{Bool, true, false, true≢false}
 use mathlib.Core.List.{List, [], _∷_, _++_}
 use native.Mathlib.Omega.{arith}
 use borrow.Author.Tests.{lt-ltb}
-use lib.Dec.{eqb}
 use lib.ListN.{take, drop}
-use lib.Seq.{drop-drop}
 use Rattle.settings.specs.declared.Settings.{Settings}
 use Rattle.settings.specs.declared.Refusal.{Refusal}
 use Rattle.settings.specs.declared.Refusal.the-variants.{DriveActive}
 use Rattle.settings.specs.declared.Verdict.{Verdict}
 use Rattle.settings.specs.declared.Verdict.the-variants.{Accepted, Refused}
 use Rattle.layouts.specs.Layout.{size}
+use Rattle.layouts.proofs.Sizes.{size-least}
 use Rattle.states.specs.States.{liveOf}
 use Rattle.words.specs.Encode.{checksumOf}
 use Rattle.words.specs.Decode.{settingsFrom, settingsOf}
@@ -26,7 +25,7 @@ use Rattle.ticks.specs.Motion.{idled}
 use Rattle.rules.specs.Word.{taken, wordOf}
 use Rattle.patterns.specs.Patterns.{wordAt}
 use Rattle.cells.specs.Lists.{cellsFrom, valuesFrom}
-use Rattle.cells.specs.Cells.{valueIn, pendingIn, motionIn, axisIn, MotionKept}
+use Rattle.cells.specs.Cells.{valueIn, pendingIn, motionIn, axisIn, motionWords, MotionKept}
 use Rattle.cells.specs.Writes.{Pends, more, Emptied, InputsKept, fieldsIn, valuesIn, TakenOver}
 use Rattle.cells.proofs.Laws.{cells-past}
 use Rattle.axis.specs.Calls.{Takes, WordCall, readIn, completedIn, Completes}
@@ -36,7 +35,7 @@ pub inputs-kept : (l m : List ℕ) → MotionKept l m → InputsKept l m
 inputs-kept l m e =
     record {
       before = ap (take 3) e;
-      after = sym (drop-drop 4 30 m) ∙ ap (drop 4) e ∙ drop-drop 4 30 l;
+      after = ap (drop 4) e;
     }
 
 -- a value that is due is one more
@@ -85,30 +84,23 @@ takeover-end l m s q e c =
     record { axis = rw e (c .axis ∙ ap into (sym q)); verdict = rw e; inputs = c .motion; kept = λ n. absurd (n refl) }
 
 -- once all have come, the values are the words themselves
-values-come : (l : List ℕ) (k n : ℕ) → k + n ≤ pendingIn l .count → valuesFrom k n (valueIn l) ≡ cellsFrom (15 + k) n l
+values-come : (l : List ℕ) (k n : ℕ) → k + n ≤ pendingIn l .count → valuesFrom k n (valueIn l) ≡ cellsFrom (23 + k) n l
 values-come l k zero h = refl
 values-come l k (suc n) h =
-    let here : valueIn l k ≡ wordAt l (15 + k) = rw (lt-ltb k (pendingIn l .count) (omega arith)) in
-    let later : valuesFrom (suc k) n (valueIn l) ≡ cellsFrom (suc (15 + k)) n l =
+    let here : valueIn l k ≡ wordAt l (23 + k) = rw (lt-ltb k (pendingIn l .count) (omega arith)) in
+    let later : valuesFrom (suc k) n (valueIn l) ≡ cellsFrom (suc (23 + k)) n l =
     values-come l (suc k) n (omega arith) ∙ ap (λ (i : ℕ). cellsFrom i n l) (omega arith) in
     ap₂ (λ (x : ℕ) (t : List ℕ). x ∷ t) here later
 
 -- in either layout kinds 0 to 13 have come where an end word is due
 come : (l : List ℕ) → size (layoutIn (pendingIn l)) ≤ pendingIn l .count → pendingIn l .values ≡ valuesIn l
 come l h = ap (λ (t : List ℕ). t ++ valueIn l 14 ∷ []) (values-come l 0 14 (omega (arith, size-least (layoutIn (pendingIn l)), h)))
-  where
-    least : (b : Bool) → 14 ≤ cond b 14 15
-    least true = omega arith
-    least false = omega arith
-
-    size-least : (layout : ℕ) → 14 ≤ size layout
-    size-least layout = least (eqb layout 1)
 
 -- emptied words leave the values
 pub rebuilt : (l m : List ℕ) (s : Settings) → s ≡ settingsOf (valuesIn l) → Emptied l m → s ≡ settingsFrom (s .offset) (s .lower) (s .upper) (fieldsIn m)
 unfolding settingsOf
 rebuilt l m s e c =
-    let same : fieldsIn m ≡ fieldsIn l = ap fieldsIn (c .words) ∙ cells-past l 14 0 15 14 (omega arith) in
+    let same : fieldsIn m ≡ fieldsIn l = ap fieldsIn (c .words) ∙ cells-past l 22 0 23 14 (omega arith) in
     e ∙ ap₂ (λ (x : Settings) (d : List ℕ). settingsFrom (x .offset) (x .lower) (x .upper) d) (sym e) (sym same)
 
 -- an end word, by the settings and the verdict that the pending values come to
@@ -132,7 +124,7 @@ module _ (l : List ℕ) (sum : ℕ) (s : Settings) (w : Verdict) (h : size (layo
         axis = d .axis ∙ ap (λ (y : Worded). y .axis) x;
         verdict = d .verdict ∙ ap (λ (y : Worded). y .verdict) x;
         inputs = record { before = d .inputs .before ∙ i .before; after = d .inputs .after ∙ i .after };
-        kept = λ q. let k = d .kept (λ a. q a refl) in (ap (take 14) k ∙ p .settings, ap (drop 30) k ∙ p .motion);
+        kept = λ q. let k = d .kept (λ a. q a refl) in (ap (λ (a : List ℕ). take 14 (drop 8 a)) k ∙ p .settings, ap motionWords k ∙ p .motion);
         refused = λ r q. d .kept (λ a. accepted-refused (sym a ∙ q)) ∙ c .words;
       })
 

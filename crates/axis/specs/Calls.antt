@@ -23,7 +23,7 @@ use Rattle.answers.specs.Answer.{answeredIn}
 use Rattle.rules.specs.Axis.{Nothing, Worded}
 use Rattle.rules.specs.Word.{withPending, taken, wordOf}
 use Rattle.rules.specs.Tick.{tickOf, gone}
-use Rattle.cells.specs.Cells.{settingsIn, activeIn, motionIn, axisIn, SettingsKept, FrontKept, MotionKept}
+use Rattle.cells.specs.Cells.{settingsIn, activeIn, motionIn, axisIn, SettingsKept, AllButMotionKept, MotionKept}
 use Rattle.cells.specs.Writes.{Cleared, emptied, InputsKept, Moved}
 
 -- a fresh axis; its words are zeros
@@ -48,7 +48,7 @@ pub record TickCall (l : List ℕ) (t : Tick) (m : List ℕ) (a : Answer) : Type
   pub axis : axisIn m ≡ tickOf (axisIn l) t .axis
   pub answer : a ≡ tickOf (axisIn l) t .answer
   -- no word of the settings in force or of what is pending changes
-  pub kept : FrontKept l m
+  pub kept : AllButMotionKept l m
   -- and none at all where the tick is refused
   pub refused : activeIn l ≡ Nothing → m ≡ l
 
@@ -81,8 +81,8 @@ pub record Homes (l : List ℕ) (t : Tick) (on : Bool) (m : List ℕ) (v : ℤ) 
 abbrev pub arrived : Motion → Phase → ℤ → Motion
 arrived a phase position = homeAt (phased a phase) (cond (homedIn phase) position (a .home))
 
--- a tick under the settings of words 0 to 13
+-- a tick under the settings in force
 pub record Runs (l : List ℕ) (t : Tick) (m : List ℕ) (a : Answer) : Type 0 where
   pub axis : axisIn m ≡ gone (axisIn l) (answeredIn (settingsIn l) (motionIn l) t) .axis
   pub answer : a ≡ answeredIn (settingsIn l) (motionIn l) t .answer
-  pub kept : FrontKept l m
+  pub kept : AllButMotionKept l m

@@ -38,12 +38,12 @@ module _ (l : List ℕ) (h : length l ≡ 38) where
   unfolding axisIn activeIn
   emptying = record { pends = rw (spelled 38 l h) (record { axis = refl; settings = refl; motion = refl }); words = refl }
 
-  pub begun : (layout : ℕ) → Pends l (started layout) (set (set l 14 1) 15 layout)
+  pub begun : (layout : ℕ) → Pends l (started layout) (set (set l 22 1) 23 layout)
   unfolding axisIn activeIn
   begun layout = rw (spelled 38 l h) (record { axis = refl; settings = refl; motion = refl })
 
   -- a store at a computed place: each of the fifteen computes
-  pub stored-value : (k x : ℕ) → k < 15 → wordAt l 14 ≡ k → Pends l (kept (pendingIn l) k x) (set (set l (15 + k) x) 14 (k + 1))
+  pub stored-value : (k x : ℕ) → k < 15 → wordAt l 22 ≡ k → Pends l (kept (pendingIn l) k x) (set (set l (23 + k) x) 22 (k + 1))
   unfolding axisIn activeIn
   stored-value zero x b e = rw (spelled 38 l h, e) (record { axis = refl; settings = refl; motion = refl })
   stored-value (suc zero) x b e = rw (spelled 38 l h, e) (record { axis = refl; settings = refl; motion = refl })
@@ -63,7 +63,7 @@ module _ (l : List ℕ) (h : length l ≡ 38) where
   stored-value (suc (suc (suc (suc (suc (suc (suc (suc (suc (suc (suc (suc (suc (suc (suc k))))))))))))))) x b e = absurd (omega arith)
 
   pub taken-over : (offset lower upper : ℤ) → mag offset < 2 ^ 31 → mag lower < 2 ^ 31 → mag upper < 2 ^ 31
-      → TakenOver l offset lower upper (set (set (set (set (set (copied 13 l) 0 1) 4 (modulo 32 offset)) 7 (modulo 32 lower)) 8 (modulo 32 upper)) 33 0)
+      → TakenOver l offset lower upper (set (set (set (set (set (copied 13 l) 8 1) 12 (modulo 32 offset)) 15 (modulo 32 lower)) 16 (modulo 32 upper)) 3 0)
   unfolding axisIn activeIn phaseOf
   taken-over offset lower upper f g k =
       record {
@@ -79,19 +79,20 @@ cells-past l i x k (suc n) h =
     ap₂ (λ (y : ℕ) (t : List ℕ). y ∷ t) (getD-set-other l i k x 0 (λ e. omega arith)) (cells-past l i x (suc k) n (omega arith))
 
 -- copying leaves the words past it
-copied-past : (k j : ℕ) (l : List ℕ) → k < j → wordAt (copied k l) j ≡ wordAt l j
+copied-past : (k j : ℕ) (l : List ℕ) → 8 + k < j → wordAt (copied k l) j ≡ wordAt l j
 copied-past zero j l h = refl
-copied-past (suc k) j l h = getD-set-other (copied k l) (suc k) j (wordAt l (16 + k)) 0 (λ e. omega arith) ∙ copied-past k j l (omega arith)
+copied-past (suc k) j l h = getD-set-other (copied k l) (9 + k) j (wordAt l (24 + k)) 0 (λ e. omega arith) ∙ copied-past k j l (omega arith)
 
 -- one word more
-pub copied-more : (l m : List ℕ) (i : ℕ) → 1 ≤ i → m ≡ copied (i - 1) l → set m i (wordAt m (15 + i)) ≡ copied (i + 1 - 1) l
+pub copied-more : (l m : List ℕ) (i : ℕ) → 1 ≤ i → m ≡ copied (i - 1) l → set m (8 + i) (wordAt m (23 + i)) ≡ copied (i + 1 - 1) l
 copied-more l m zero h e = absurd (omega arith)
 copied-more l m (suc k) h e =
     let a : suc k - 1 ≡ k = omega arith in
     let b : suc k + 1 - 1 ≡ suc k = omega arith in
+    let p : 8 + suc k ≡ 9 + k = omega arith in
     let d : m ≡ copied k l = rw a at e in
-    let x : wordAt m (15 + suc k) ≡ wordAt l (16 + k) = rw d (copied-past k (15 + suc k) l (omega arith) ∙ ap (wordAt l) (omega arith)) in
-    rw (b, x, d)
+    let x : wordAt m (23 + suc k) ≡ wordAt l (24 + k) = rw d (copied-past k (23 + suc k) l (omega arith) ∙ ap (wordAt l) (omega arith)) in
+    rw (b, x, d, p)
 
 -- a sum taken modulo 2 ^ 32 at each turn
 pub summed : (l : List ℕ) (k n : ℕ) → total (cellsFrom k (suc n) l) ≡ total (cellsFrom k n l) + wordAt l (k + n)
@@ -102,20 +103,20 @@ summed l k (suc n) = let i : k + suc n ≡ suc k + n = omega arith in rw i (let 
 -- the parts of motion: what is stored reads back
 module _ (l : List ℕ) (h : length l ≡ 38) where
   pub driven-words : (state : State) (mode : Mode) (alarm : ℕ)
-      → Moved l (driven (motionIn l) state mode alarm) (set (set (set l 30 (stateNumber state)) 31 (modeOrdinal mode)) 32 alarm)
+      → Moved l (driven (motionIn l) state mode alarm) (set (set (set l 0 (stateNumber state)) 1 (modeOrdinal mode)) 2 alarm)
   unfolding axisIn activeIn
   driven-words state mode alarm = record { axis = rw (spelled 38 l h, state-back state, mode-back mode); kept = rw (spelled 38 l h) }
 
-  pub phased-words : (phase : ℕ) → Moved l (phased (motionIn l) (phaseOf phase)) (set l 33 phase)
+  pub phased-words : (phase : ℕ) → Moved l (phased (motionIn l) (phaseOf phase)) (set l 3 phase)
   unfolding axisIn activeIn
   phased-words phase = record { axis = rw (spelled 38 l h); kept = rw (spelled 38 l h) }
 
-  pub home-words : (home : ℤ) → mag home < 2 ^ 31 → Moved l (homeAt (motionIn l) home) (set l 34 (modulo 32 home))
+  pub home-words : (home : ℤ) → mag home < 2 ^ 31 → Moved l (homeAt (motionIn l) home) (set l 4 (modulo 32 home))
   unfolding axisIn activeIn
   home-words home f = record { axis = rw (spelled 38 l h, signed-back home f); kept = rw (spelled 38 l h) }
 
   pub fed-words : (control switches : ℕ) (position : ℤ) → control < 2 ^ 16 → mag position < 2 ^ 31
-      → Moved l (fed (motionIn l) control (switchesIn switches) position) (set (set (set l 35 control) 36 switches) 37 (modulo 32 position))
+      → Moved l (fed (motionIn l) control (switchesIn switches) position) (set (set (set l 5 control) 6 switches) 7 (modulo 32 position))
   unfolding axisIn activeIn
   fed-words control switches position f g =
       let k : control % 2 ^ 16 ≡ control = omega arith in

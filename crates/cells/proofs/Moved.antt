@@ -1,22 +1,30 @@
 -- Writes of motion, one after the other.
 -- Assumes nothing.
-use Prim.Native.Nat.{ℕ, zero, suc, _+_, _≤_}
+use Prim.Native.Nat.{ℕ, zero, suc, _+_}
 use mathlib.Core.Path.{_≡_, refl, sym, ap, ap₂, _∙_}
 use mathlib.Core.List.{List, _∷_}
 use native.Mathlib.Omega.{arith}
-use lib.ListN.{take}
-use lib.Seq.{getD-take}
+use lib.ListN.{drop}
+use lib.Seq.{getD-drop}
+use Rattle.settings.specs.declared.Settings.{Settings}
+use Rattle.words.specs.Decode.{settingsFrom}
 use Rattle.ticks.specs.Motion.{Motion}
 use Rattle.rules.specs.Axis.{Axis}
 use Rattle.rules.specs.Tick.{withMotion}
 use Rattle.cells.specs.Lists.{cellsFrom}
-use Rattle.cells.specs.Cells.{settingsIn, motionIn, axisIn}
+use Rattle.cells.specs.Cells.{signedIn, settingsIn, motionIn, axisIn}
 use Rattle.cells.specs.Writes.{Moved}
 
--- the first words of a list, read from as many of it
-cells-front : (j k n : ℕ) (l : List ℕ) → k + n ≤ j → cellsFrom k n (take j l) ≡ cellsFrom k n l
-cells-front j k zero l h = refl
-cells-front j k (suc n) l h = ap₂ (λ (x : ℕ) (t : List ℕ). x ∷ t) (getD-take j l k 0 (omega arith)) (cells-front j (suc k) n l (omega arith))
+-- words past the first j of a list, read from what is left of it
+cells-rest : (j k n : ℕ) (l : List ℕ) → cellsFrom k n (drop j l) ≡ cellsFrom (j + k) n l
+cells-rest j k zero l = refl
+cells-rest j k (suc n) l =
+    let i : j + suc k ≡ suc (j + k) = omega arith in
+    ap₂ (λ (x : ℕ) (t : List ℕ). x ∷ t) (getD-drop j l k 0) (cells-rest j (suc k) n l ∙ ap (λ (a : ℕ). cellsFrom a n l) i)
+
+-- the settings that fourteen words carry
+abbrev settings-of : List ℕ → Settings
+settings-of t = settingsFrom (signedIn t 4) (signedIn t 7) (signedIn t 8) (cellsFrom 0 14 t)
 
 module _ {l m : List ℕ} {a : Motion} (w : Moved l a m) where
   pub motion-moved : motionIn m ≡ a
@@ -24,8 +32,7 @@ module _ {l m : List ℕ} {a : Motion} (w : Moved l a m) where
   motion-moved = ap (λ (x : Axis). x .motion) (w .axis)
 
   pub settings-moved : settingsIn m ≡ settingsIn l
-  settings-moved =
-      ap settingsIn (sym (cells-front 30 0 14 m (omega arith)) ∙ ap (cellsFrom 0 14) (w .kept) ∙ cells-front 30 0 14 l (omega arith))
+  settings-moved = ap settings-of (sym (cells-rest 8 0 14 m) ∙ ap (cellsFrom 0 14) (w .kept) ∙ cells-rest 8 0 14 l)
 
   pub moved-again : {b : Motion} {n : List ℕ} → Moved m b n → Moved l b n
   moved-again {b} v = record { axis = v .axis ∙ ap (λ (x : Axis). withMotion x b) (w .axis); kept = v .kept ∙ w .kept }

@@ -16,7 +16,7 @@ use Rattle.rules.specs.Word.{withPending}
 use Rattle.rules.specs.Tick.{withMotion}
 use Rattle.patterns.specs.Patterns.{wordAt}
 use Rattle.cells.specs.Lists.{cellsFrom}
-use Rattle.cells.specs.Cells.{valueIn, pendingIn, motionIn, axisIn, SettingsKept, PendingKept, FrontKept, MotionKept}
+use Rattle.cells.specs.Cells.{valueIn, pendingIn, motionIn, axisIn, motionWords, SettingsKept, PendingKept, AllButMotionKept, MotionKept}
 
 pub record Cleared (m : List ℕ) : Type 0 where
   pub axis : axisIn m ≡ freshAxis
@@ -30,7 +30,7 @@ pub record Pends (l : List ℕ) (p : Pending) (m : List ℕ) : Type 0 where
 
 -- nothing pending: the count alone is written
 abbrev pub emptied : List ℕ → List ℕ
-emptied l = set l 14 0
+emptied l = set l 22 0
 
 pub record Emptied (l m : List ℕ) : Type 0 where
   pub pends : Pends l emptyPending m
@@ -48,21 +48,21 @@ Appended l x m = Pends l (more (pendingIn l) x) m
 
 -- all words of motion but the phase
 pub record InputsKept (l m : List ℕ) : Type 0 where
-  pub before : take 3 (drop 30 m) ≡ take 3 (drop 30 l)
-  pub after : drop 34 m ≡ drop 34 l
+  pub before : take 3 (motionWords m) ≡ take 3 (motionWords l)
+  pub after : drop 4 (motionWords m) ≡ drop 4 (motionWords l)
 
 -- the words of the pending values of kinds 0 to 13 as they stand; all of them have come where an end word is due
 abbrev pub fieldsIn : List ℕ → List ℕ
-fieldsIn l = cellsFrom 15 14 l
+fieldsIn l = cellsFrom 23 14 l
 
 -- and kind 14's, which has come in layout 2 alone
 abbrev pub valuesIn : List ℕ → List ℕ
 valuesIn l = fieldsIn l ++ valueIn l 14 ∷ []
 
--- words 1 to k are the values of the same kinds
+-- the words of kinds 1 to k in force are the pending ones
 abbrev pub copied : ℕ → List ℕ → List ℕ
 copied zero l = l
-copied (suc k) l = set (copied k l) (suc k) (wordAt l (16 + k))
+copied (suc k) l = set (copied k l) (9 + k) (wordAt l (24 + k))
 
 -- the settings of these values come into force, with offset and limits given
 pub record TakenOver (l : List ℕ) (offset lower upper : ℤ) (m : List ℕ) : Type 0 where
@@ -73,4 +73,4 @@ pub record TakenOver (l : List ℕ) (offset lower upper : ℤ) (m : List ℕ) : 
 -- motion is a, and nothing else changes
 pub record Moved (l : List ℕ) (a : Motion) (m : List ℕ) : Type 0 where
   pub axis : axisIn m ≡ withMotion (axisIn l) a
-  pub kept : FrontKept l m
+  pub kept : AllButMotionKept l m

@@ -19,45 +19,48 @@ ghost use Rattle.cells.specs.Lists.{cellsFrom};
 ghost use Rattle.cells.specs.Cells.{settingsIn, valueIn, pendingIn, motionIn};
 ghost use Rattle.cells.specs.Writes.{Cleared, Emptied, Begun, Appended, fieldsIn, valuesIn, copied, TakenOver, Moved};
 
-// The lent words: the settings in force, what is pending, motion. Words 0 to 13 are the data of the settings words that came into force, but
-// offset and position limits, which stand whole; the first is 1, and 0 where none did.
+// The lent words: motion, the settings in force, what is pending. Motion comes first: a Cortex-M0 reaches the first 32 words of an array in one
+// instruction, and a tick reads and writes motion throughout.
 pub type Lent = [u32; 38];
 
-const METHOD: usize = 1;
+const STATE: usize = 0;
 
-const OFFSET: usize = 4;
+const MODE: usize = 1;
 
-const LOWER: usize = 7;
+const ALARM: usize = 2;
 
-const UPPER: usize = 8;
+const PHASE: usize = 3;
 
-const OPTION: usize = 12;
+const HOME: usize = 4;
 
-const RATED: usize = 13;
+const CONTROL: usize = 5;
+
+const SWITCHES: usize = 6;
+
+const POSITION: usize = 7;
+
+// The data of the settings words that came into force, but offset and position limits, which stand whole; the first is 1, and 0 where none did.
+const ACTIVE: usize = 8;
+
+const METHOD: usize = 9;
+
+const OFFSET: usize = 12;
+
+const LOWER: usize = 15;
+
+const UPPER: usize = 16;
+
+const OPTION: usize = 20;
+
+const RATED: usize = 21;
 
 // How many settings words are pending, and the first one's data.
-const COUNT: usize = 14;
+const COUNT: usize = 22;
 
-const VALUES: usize = 15;
+const VALUES: usize = 23;
 
 // Kind 14's data.
-const TOPS: usize = 29;
-
-const STATE: usize = 30;
-
-const MODE: usize = 31;
-
-const ALARM: usize = 32;
-
-const PHASE: usize = 33;
-
-const HOME: usize = 34;
-
-const CONTROL: usize = 35;
-
-const SWITCHES: usize = 36;
-
-const POSITION: usize = 37;
+const TOPS: usize = 37;
 
 // By value an array tells its length; in a contract, a reference to it does not.
 fn lent(axis: Lent)
@@ -66,29 +69,29 @@ fn lent(axis: Lent)
 
 // Whether settings are in force.
 pub fn is_active(axis: &Lent) -> bool
-    ensures { λ r. ⌜ r ≡ not (eqb (wordAt (now (axis .entry)) 0) 0) ⌝ }
+    ensures { λ r. ⌜ r ≡ not (eqb (wordAt (now (axis .entry)) 8) 0) ⌝ }
 {
-    axis[0] != 0
+    axis[ACTIVE] != 0
 }
 
 fn active_values(axis: &Lent) -> [u32; 14]
-    ensures { λ r. ⌜ r ≡ cellsFrom 0 14 (now (axis .entry)) ⌝ }
+    ensures { λ r. ⌜ r ≡ cellsFrom 8 14 (now (axis .entry)) ⌝ }
 {
     [
-        axis[0],
-        axis[1],
-        axis[2],
-        axis[3],
-        axis[4],
-        axis[5],
-        axis[6],
-        axis[7],
-        axis[8],
+        axis[ACTIVE],
         axis[9],
         axis[10],
         axis[11],
         axis[12],
         axis[13],
+        axis[14],
+        axis[15],
+        axis[16],
+        axis[17],
+        axis[18],
+        axis[19],
+        axis[20],
+        axis[21],
     ]
 }
 
@@ -141,19 +144,19 @@ fn values(axis: &Lent) -> [u32; 14]
 {
     [
         axis[VALUES],
-        axis[16],
-        axis[17],
-        axis[18],
-        axis[19],
-        axis[20],
-        axis[21],
-        axis[22],
-        axis[23],
         axis[24],
         axis[25],
         axis[26],
         axis[27],
         axis[28],
+        axis[29],
+        axis[30],
+        axis[31],
+        axis[32],
+        axis[33],
+        axis[34],
+        axis[35],
+        axis[36],
     ]
 }
 
@@ -273,7 +276,7 @@ fn copy_values(axis: &mut Lent)
     ensures { λ _. ⌜ now (axis .exit) ≡ copied 13 (now (axis .entry)) ⌝ }
 {
     for i in 1..14 {
-        axis[i] = axis[VALUES + i];
+        axis[ACTIVE + i] = axis[VALUES + i];
     }
 }
 
@@ -283,7 +286,7 @@ pub fn take_over(axis: &mut Lent, offset: i32, lower: i32, upper: i32)
 {
     lent(*axis);
     copy_values(axis);
-    axis[0] = 1;
+    axis[ACTIVE] = 1;
     axis[OFFSET] = counts::pattern(offset);
     axis[LOWER] = counts::pattern(lower);
     axis[UPPER] = counts::pattern(upper);

@@ -10,7 +10,7 @@ ghost use mathlib.Core.List.{_++_};
 ghost use lib.ListN.{length, take, drop};
 ghost use Rattle.ranges.specs.Range.{torqueOk};
 ghost use Rattle.settings.specs.Ranges.{inRange};
-ghost use Rattle.words.specs.Encode.{limitSet, lowOf, topOf, topsOf, valuesOf, below, sealed};
+ghost use Rattle.words.specs.Encode.{limitSet, lowOf, topOf, topsOf, valuesOf, below, checksumOf, wordsFrom, sealed};
 ghost use Rattle.writer.specs.Write.{writeVerdict, written};
 
 // The low 28 bits of a position.
@@ -105,16 +105,32 @@ pub fn write(layout: u32, s: Settings, buffer: &mut [u32]) -> Verdict
     }
 }
 
-// So much of the data as words of rising kinds, and the end word with their sum.
-fn fill(size: usize, values: [u32; 15], buffer: &mut [u32])
-    requires { ⌜ (size ≤ 15) × (size < length (now buffer)) × below values ⌝ }
-    ensures { λ _. ⌜ now (buffer .exit) ≡ sealed (take size values) ++ drop (size + 1) (now (buffer .entry)) ⌝ }
+// The words of kinds 0 to 13, which every layout has. Returns the sum of their data.
+fn first_words(values: [u32; 15], buffer: &mut [u32]) -> u32
+    requires { ⌜ (14 ≤ length (now buffer)) × below values ⌝ }
+    ensures { λ r. ⌜ r ≡ checksumOf (take 14 values) ⌝ }
+    ensures { λ _. ⌜ now (buffer .exit) ≡ wordsFrom 0 (take 14 values) ++ drop 14 (now (buffer .entry)) ⌝ }
 {
     let mut sum: u32 = 0;
-    for i in 0..size {
+    for i in 0..14 {
         let x = values[i];
         buffer[i] = (i as u32) * KIND + x;
         sum = (sum + x) % KIND;
     }
-    buffer[size] = 0xF0000000 + sum;
+    sum
+}
+
+// So many values as words of rising kinds, and the end word with their sum.
+fn fill(size: usize, values: [u32; 15], buffer: &mut [u32])
+    requires { ⌜ (14 ≤ size) × (size ≤ 15) × (size < length (now buffer)) × below values ⌝ }
+    ensures { λ _. ⌜ now (buffer .exit) ≡ sealed (take size values) ++ drop (size + 1) (now (buffer .entry)) ⌝ }
+{
+    let sum = first_words(values, buffer);
+    if size == 15 {
+        let x = values[14];
+        buffer[14] = 0xE0000000 + x;
+        buffer[15] = 0xF0000000 + (sum + x) % KIND;
+    } else {
+        buffer[14] = 0xF0000000 + sum;
+    }
 }

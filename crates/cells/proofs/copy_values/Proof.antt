@@ -1,4 +1,4 @@
--- `cells::copy_values` meets its contract: before turn i the words before i are copied.
+-- `cells::copy_values` meets its contract: before turn i the words of kinds 1 to i − 1 are copied.
 -- Assumes nothing.
 use Prim.Native.Nat.{ℕ, _≤_, _-_}
 use mathlib.Core.Path.{_≡_, refl, ap, _∙_}
@@ -25,6 +25,9 @@ mul-axis c = omega arith
 
 element-copy-out-axis : tie.Need-element-copy-out-axis Inv-loop μ-loop
 element-copy-out-axis c = omega arith
+
+add-axis-2 : tie.Need-add-axis-2 Inv-loop μ-loop
+add-axis-2 c = omega arith
 
 mul-axis-2 : tie.Need-mul-axis-2 Inv-loop μ-loop
 mul-axis-2 c = omega arith
@@ -59,6 +62,7 @@ copy-values-spec =
     add-axis
     mul-axis
     element-copy-out-axis
+    add-axis-2
     mul-axis-2
     element-write-axis
     add-i

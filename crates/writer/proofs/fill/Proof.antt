@@ -1,127 +1,103 @@
--- `writer::fill` meets its contract: after i turns the buffer starts with the first i words, and the sum is theirs.
+-- `writer::fill` meets its contract: past the first fourteen words each store fills one word more.
 -- Assumes nothing.
-use Prim.Native.Nat.{suc, _≤_, _<_, _+_, _-_}
-use mathlib.Core.Path.{_≡_, refl, sym, _∙_}
-use mathlib.Core.List.{_++_}
-use native.Mathlib.Numerals.{add-one}
+use Prim.Native.Nat.{ℕ, _+_, _%_, _^_, _<_}
+use mathlib.Core.Path.{_≡_, _∙_}
+use mathlib.Core.List.{List, _++_}
 use native.Mathlib.Omega.{arith}
 use borrow.Author.Needs.{needs}
-use lib.ListN.{length, take, drop, getD, length-set}
-use lib.Seq.{take-all, getD-take, length-take-le}
-use Rattle.words.specs.Encode.{total, checksumOf, sealed}
-use Rattle.words.proofs.Words.{fill-more, total-more, length-sealed, sealed-word, sealed-end}
+use lib.ListN.{length, take, drop, getD, set, length-set}
+use lib.Seq.{length-take-le}
+use Rattle.words.specs.Word.{packed}
+use Rattle.words.specs.Encode.{checksumOf, wordsFrom, sealed}
+use Rattle.words.proofs.Words.{stored, length-words, words-more, total-more}
 use Rattle.writer.proofs.fill.Statement.{statement}
 use Rattle.writer.proofs.fill.Tie as tie
 
-abbrev Inv-loop : tie.InvT-loop
-Inv-loop size buffer₀ values sum₀ i₀ buffer sum i =
-    (i ≤ size)
-    × (buffer ≡ take i (sealed (take size values)) ++ drop i buffer₀)
-    × (length buffer ≡ length buffer₀)
-    × (sum ≡ checksumOf (take i (take size values)))
+-- fourteen words and the end word, and one word between them
+module _ (v b : List ℕ) (n : length v ≡ 15) where
+  filled : (k : ℕ) → k < 16 → length (wordsFrom 0 (take k v)) ≡ k
+  filled k h = length-words 0 (take k v) ∙ length-take-le k v (omega arith)
 
-abbrev μ-loop : tie.MeasureT-loop
-μ-loop size buffer₀ values sum₀ i₀ buffer sum i = size - i
+  fourteen : 14 < length b → set (wordsFrom 0 (take 14 v) ++ drop 14 b) 14 (packed 15 (checksumOf (take 14 v))) ≡ sealed (take 14 v) ++ drop 15 b
+  fourteen h = stored (wordsFrom 0 (take 14 v)) b 14 _ (filled 14 (omega arith)) h
 
-loop-holds : tie.Need-loop-holds Inv-loop μ-loop
-unfolding total checksumOf
-loop-holds c = (omega arith, refl, refl, refl)
+  one-more : 15 < length b → set (wordsFrom 0 (take 14 v) ++ drop 14 b) 14 (packed 14 (getD v 14 0)) ≡ wordsFrom 0 (take 15 v) ++ drop 15 b
+  one-more h = rw (words-more 0 v 14 (omega arith)) (stored (wordsFrom 0 (take 14 v)) b 14 _ (filled 14 (omega arith)) (omega arith))
 
-mul-x : tie.Need-mul-x Inv-loop μ-loop
-mul-x c = search needs
+  summed : (checksumOf (take 14 v) + getD v 14 0) % 2 ^ 28 ≡ checksumOf (take 15 v)
+  unfolding checksumOf
+  summed = omega (arith, total-more v 14 (omega arith))
 
-array-read-x : tie.Need-array-read-x Inv-loop μ-loop
+  fifteen : 15 < length b
+      → set (set (wordsFrom 0 (take 14 v) ++ drop 14 b) 14 (packed 14 (getD v 14 0))) 15 (packed 15 ((checksumOf (take 14 v) + getD v 14 0) % 2 ^ 28))
+      ≡ sealed (take 15 v) ++ drop 16 b
+  fifteen h = rw (one-more h, summed) (stored (wordsFrom 0 (take 15 v)) b 15 _ (filled 15 (omega arith)) h)
+
+first-words-requires : tie.Need-first-words-requires
+first-words-requires c κs = search needs
+
+array-read-x : tie.Need-array-read-x
 array-read-x c = search needs
 
-cast-buffer : tie.Need-cast-buffer Inv-loop μ-loop
-cast-buffer c = search needs
+add-buffer : tie.Need-add-buffer
+add-buffer c = omega (arith, c .before .before .before .before .before .before .pre .3 14)
 
-mul-buffer : tie.Need-mul-buffer Inv-loop μ-loop
-mul-buffer c = search needs
-
-add-buffer : tie.Need-add-buffer Inv-loop μ-loop
-add-buffer c = omega (arith, c .before .before .pre .2 (c .before .loop .i))
-
-mul-buffer-2 : tie.Need-mul-buffer-2 Inv-loop μ-loop
-mul-buffer-2 c = search needs
-
-slice-write-buffer : tie.Need-slice-write-buffer Inv-loop μ-loop
+slice-write-buffer : tie.Need-slice-write-buffer
 slice-write-buffer c = search needs
 
-add-sum : tie.Need-add-sum Inv-loop μ-loop
+add-buffer-2 : tie.Need-add-buffer-2
 unfolding checksumOf
-add-sum c = omega (arith, c .before .before .pre .2 (c .before .loop .i))
+add-buffer-2 c =
+    let f = c .before .before .before in omega (arith, f .first-words .ensures .0, f .before .before .before .pre .3 14)
 
-add-i : tie.Need-add-i Inv-loop μ-loop
-add-i c = search needs
+add-buffer-3 : tie.Need-add-buffer-3
+add-buffer-3 c = search needs
 
-loop-less : tie.Need-loop-less Inv-loop μ-loop
-loop-less c = search needs
+slice-write-buffer-2 : tie.Need-slice-write-buffer-2
+slice-write-buffer-2 c = simp length-set (omega arith)
 
-loop-again : tie.Need-loop-again Inv-loop μ-loop
+add-buffer-4 : tie.Need-add-buffer-4
 unfolding checksumOf
-loop-again c =
-    let a = c .before in
-    let v = take (a .before .args .size) (a .before .args .t2) in
-    let long : length (a .before .args .t2) ≡ 15 = search needs in
-    let n : length v ≡ a .before .args .size = length-take-le _ _ (omega arith) in
-    let h : a .loop .i < length v = omega arith in
-    let x = getD-take (a .before .args .size) (a .before .args .t2) (a .loop .i) 0 (omega arith) in
-    let t = total-more v (a .loop .i) h in (
-      omega arith,
-      rw (add-one, a .loop .inv .1, ← x, ← sealed-word v (a .loop .i) h)
-          (fill-more (sealed v) (a .before .args .buffer .now) (a .loop .i) (omega (arith, length-sealed v)) (omega arith)),
-      simp length-set (a .loop .inv .2),
-      rw add-one (omega arith),
-    )
+add-buffer-4 c = omega (arith, c .before .before .before .first-words .ensures .0)
 
-add-buffer-2 : tie.Need-add-buffer-2 Inv-loop μ-loop
-unfolding checksumOf
-add-buffer-2 c = search needs
+slice-write-buffer-3 : tie.Need-slice-write-buffer-3
+slice-write-buffer-3 c = search needs
 
-mul-buffer-3 : tie.Need-mul-buffer-3 Inv-loop μ-loop
-mul-buffer-3 c = search needs
+same-length : tie.Need-same-length
+same-length c = search needs
 
-slice-write-buffer-2 : tie.Need-slice-write-buffer-2 Inv-loop μ-loop
-slice-write-buffer-2 c = search needs
-
-same-length : tie.Need-same-length Inv-loop μ-loop
-same-length c = simp length-set (c .before .loop .inv .2)
-
-returns : tie.Need-returns Inv-loop μ-loop
+returns : tie.Need-returns
 returns c =
-    let a = c .before in
-    let size = a .before .args .size in
-    let v = take size (a .before .args .t2) in
-    let long : length (a .before .args .t2) ≡ 15 = search needs in
-    let n : length v ≡ size = length-take-le _ _ (omega arith) in
-    let i : a .loop .i ≡ size = omega arith in
-    let w : 4026531840 + a .loop .sum ≡ getD (sealed v) size 0 =
-    rw (a .loop .inv .3, take-all (a .loop .i) v (omega arith)) (sym (rw n at (sealed-end v))) in
-    let all : take (suc size) (sealed v) ≡ sealed v = take-all (suc size) (sealed v) (omega (arith, length-sealed v)) in
-    rw (w, a .loop .inv .1, i, add-one size)
-    (fill-more (sealed v) (a .before .args .buffer .now) size (omega (arith, length-sealed v)) (omega arith) ∙ rw all)
+    let f = c .before .before .before in
+    let a = f .before .before .before .args in
+    let n : length (a .t2) ≡ 15 = search needs in
+    rw (f .first-words .ensures .0, f .first-words .ensures .1, c .if1 .taken) (fifteen (a .t2) (a .buffer .now) n (omega arith))
+
+same-length-2 : tie.Need-same-length-2
+same-length-2 c = search needs
+
+returns-2 : tie.Need-returns-2
+returns-2 c =
+    let f = c .before .before .before in
+    let a = f .before .before .before .args in
+    let n : length (a .t2) ≡ 15 = search needs in
+    let s : a .size ≡ 14 = omega arith in
+    rw (f .first-words .ensures .0, f .first-words .ensures .1, s) (fourteen (a .t2) (a .buffer .now) n (omega arith))
 
 pub fill-spec : {M : Type 1} → statement M
 fill-spec =
     tie.close
     (tie.spec
-    Inv-loop
-    μ-loop
-    loop-holds
-    mul-x
+    first-words-requires
     array-read-x
-    cast-buffer
-    mul-buffer
     add-buffer
-    mul-buffer-2
     slice-write-buffer
-    add-sum
-    add-i
-    loop-less
-    loop-again
     add-buffer-2
-    mul-buffer-3
+    add-buffer-3
     slice-write-buffer-2
+    add-buffer-4
+    slice-write-buffer-3
     same-length
-    returns)
+    returns
+    same-length-2
+    returns-2)

@@ -16,7 +16,7 @@ use Rattle.checks.specs.Check.{verdictOf}
 use Rattle.checks.proofs.Numbers.{accepts, passes}
 use Rattle.words.specs.Encode.{valuesOf, wordsOf}
 use Rattle.words.proofs.Widths.{values-below, below-at}
-use Rattle.layouts.proofs.Sizes.{size-below}
+use Rattle.layouts.proofs.Sizes.{size-least, size-below}
 use Rattle.writer.specs.Write.{writeVerdict}
 use borrow.Author.Needs.{needs}
 use Rattle.writer.proofs.write.Statement.{statement}
@@ -115,7 +115,9 @@ fill-requires c κs =
     let z = k .before .before .before .before in
     let a = z .before .before .before .before .args in
     let in-layout = both-not (isLayout (a .layout)) (known-in (z .before)) in
-    let size = size-below (a .layout) in (
+    let least = size-least (a .layout) in
+    let below = size-below (a .layout) in (
+      rw (z .size .ensures) least,
       rw (z .size .ensures) (omega arith),
       search needs,
       rw (c .before .values .ensures) (below-at (valuesOf (a .layout) (a .s)) (values-below (a .layout) (a .s) in-layout (range k (t .enum-told .given .1)))),
