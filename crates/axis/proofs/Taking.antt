@@ -96,27 +96,33 @@ values-come l k (suc n) h =
 come : (l : List ℕ) → size (layoutIn (pendingIn l)) ≤ pendingIn l .count → pendingIn l .values ≡ valuesIn l
 come l h = ap (λ (t : List ℕ). t ++ valueIn l 14 ∷ []) (values-come l 0 14 (omega (arith, size-least (layoutIn (pendingIn l)), h)))
 
--- emptied words leave the values
-pub rebuilt : (l m : List ℕ) (s : Settings) → s ≡ settingsOf (valuesIn l) → Emptied l m → s ≡ settingsFrom (s .offset) (s .lower) (s .upper) (fieldsIn m)
-unfolding settingsOf
-rebuilt l m s e c =
-    let same : fieldsIn m ≡ fieldsIn l = ap fieldsIn (c .words) ∙ cells-past l 22 0 23 14 (omega arith) in
-    e ∙ ap₂ (λ (x : Settings) (d : List ℕ). settingsFrom (x .offset) (x .lower) (x .upper) d) (sym e) (sym same)
+-- an end word that has emptied what was pending, with the settings and the verdict that the values came to
+pub record Closed (l : List ℕ) (sum : ℕ) (s : Settings) (w : Verdict) (m : List ℕ) : Type 0 where
+  pub due : size (layoutIn (pendingIn l)) ≤ pendingIn l .count
+  pub settings : s ≡ settingsOf (valuesIn l)
+  pub verdict : w ≡ closeVerdict s (checksumOf (valuesIn l)) sum
+  pub emptied : Emptied l m
 
--- an end word, by the settings and the verdict that the pending values come to
-module _ (l : List ℕ) (sum : ℕ) (s : Settings) (w : Verdict) (h : size (layoutIn (pendingIn l)) ≤ pendingIn l .count) (is : s ≡ settingsOf (valuesIn l))
-    (e : w ≡ closeVerdict s (checksumOf (valuesIn l)) sum) where
+module _ {l : List ℕ} {sum : ℕ} {s : Settings} {w : Verdict} {m : List ℕ} (c : Closed l sum s w m) where
   ended : endRead (pendingIn l) sum ≡ judged s w
   unfolding endRead endVerdict
-  ended = rw (come l h, e, is)
+  ended = rw (come l (c .due), c .verdict, c .settings)
 
-  pub refused-end : (m : List ℕ) (r : Refusal) → w ≡ Refused r → Emptied l m → Takes l true (readIn l (endRead (pendingIn l) sum)) m (Refused r)
-  refused-end m r q c = rw (ended ∙ ap (judged s) q) (refused-word l m true r c)
+  -- emptied words leave the values
+  pub rebuilt : s ≡ settingsFrom (s .offset) (s .lower) (s .upper) (fieldsIn m)
+  unfolding settingsOf
+  rebuilt =
+      let e = c .settings in
+      let same : fieldsIn m ≡ fieldsIn l = ap fieldsIn (c .emptied .words) ∙ cells-past l 22 0 23 14 (omega arith) in
+      e ∙ ap₂ (λ (x : Settings) (d : List ℕ). settingsFrom (x .offset) (x .lower) (x .upper) d) (sym e) (sym same)
 
-  -- the words are emptied first, then the settings come into force or not
-  pub complete-end : (m n : List ℕ) (v : Verdict) → w ≡ Accepted → Emptied l m → Completes m s n v → Takes l true (readIn l (endRead (pendingIn l) sum)) n v
-  complete-end m n v a c d =
-      let p = c .pends in
+  pub refused-end : (r : Refusal) → w ≡ Refused r → Takes l true (readIn l (endRead (pendingIn l) sum)) m (Refused r)
+  refused-end r q = rw (ended ∙ ap (judged s) q) (refused-word l m true r (c .emptied))
+
+  -- the settings come into force or not
+  pub complete-end : (n : List ℕ) (v : Verdict) → w ≡ Accepted → Completes m s n v → Takes l true (readIn l (endRead (pendingIn l) sum)) n v
+  complete-end n v a d =
+      let p = c .emptied .pends in
       let x : completedIn m s ≡ readIn l (complete s) = ap (λ (b : Axis). taken b (Complete s)) (p .axis) in
       let i = inputs-kept l m (p .motion) in
       rw (ended ∙ ap (judged s) a)
@@ -125,7 +131,7 @@ module _ (l : List ℕ) (sum : ℕ) (s : Settings) (w : Verdict) (h : size (layo
         verdict = d .verdict ∙ ap (λ (y : Worded). y .verdict) x;
         inputs = record { before = d .inputs .before ∙ i .before; after = d .inputs .after ∙ i .after };
         kept = λ q. let k = d .kept (λ a. q a refl) in (ap (λ (a : List ℕ). take 14 (drop 8 a)) k ∙ p .settings, ap motionWords k ∙ p .motion);
-        refused = λ r q. d .kept (λ a. accepted-refused (sym a ∙ q)) ∙ c .words;
+        refused = λ r q. d .kept (λ a. accepted-refused (sym a ∙ q)) ∙ c .emptied .words;
       })
 
 -- the whole word is what its branch is

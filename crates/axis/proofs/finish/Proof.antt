@@ -1,7 +1,7 @@
 -- `axis::finish` meets its contract.
 -- Assumes nothing.
 use mathlib.Core.Path.{_∙_}
-use Rattle.axis.proofs.Taking.{rebuilt, refused-end, complete-end}
+use Rattle.axis.proofs.Taking.{Closed, rebuilt, refused-end, complete-end}
 use borrow.Author.Needs.{needs}
 use Rattle.axis.proofs.finish.Statement.{statement}
 use Rattle.axis.proofs.finish.Tie as tie
@@ -21,56 +21,31 @@ empty-requires c κs = search needs
 enum-told : tie.Need-enum-told
 enum-told c = search needs
 
+-- what is known once the pending words are emptied
+closed : (c : tie.After-empty)
+    → (let v = c .before .before .before .before .before in Closed (v .before .before .args .axis .now) (v .before .before .args .sum) (v .pending-settings .result) (c .before .before .close .result) (c .empty .last .0))
+closed c =
+    let q = c .before .before in
+    let k = q .before in
+    let v = k .before .before in
+    record {
+      due = v .before .before .pre;
+      settings = v .pending-settings .ensures;
+      verdict = q .close .ensures ∙ rw (k .checksum .ensures);
+      emptied = c .empty .ensures;
+    }
+
 complete-requires : tie.Need-complete-requires
-complete-requires c κs =
-    let e = c .before .before .before in
-    let v = e .before .before .before .before .before in
-    rebuilt (v .before .before .args .axis .now) _ _ (v .pending-settings .ensures) (e .empty .ensures)
+complete-requires c κs = rebuilt (closed (c .before .before .before))
 
 enum-known-verdict : tie.Need-enum-known-verdict
 enum-known-verdict c = search needs
 
 returns : tie.Need-returns
-returns c =
-    let e = c .before .before .before .before in
-    let q = e .before .before in
-    let k = q .before in
-    let v = k .before .before in
-    let b = v .before .before in
-    complete-end
-    (b .args .axis .now)
-    (b .args .sum)
-    (v .pending-settings .result)
-    (q .close .result)
-    (b .pre)
-    (v .pending-settings .ensures)
-    (q .close .ensures ∙ rw (k .checksum .ensures))
-    (e .empty .last .0)
-    (c .complete .last .0)
-    (c .complete .result)
-    (c .before .before .enum-told .given .1)
-    (e .empty .ensures)
-    (c .complete .ensures)
+returns c = complete-end (closed (c .before .before .before .before)) _ _ (c .before .before .enum-told .given .1) (c .complete .ensures)
 
 returns-2 : tie.Need-returns-2
-returns-2 c =
-    let e = c .before .before .before in
-    let q = e .before .before in
-    let k = q .before in
-    let v = k .before .before in
-    let b = v .before .before in
-    refused-end
-    (b .args .axis .now)
-    (b .args .sum)
-    (v .pending-settings .result)
-    (q .close .result)
-    (b .pre)
-    (v .pending-settings .ensures)
-    (q .close .ensures ∙ rw (k .checksum .ensures))
-    (e .empty .last .0)
-    _
-    (c .before .verdict .given .1)
-    (e .empty .ensures)
+returns-2 c = refused-end (closed (c .before .before .before)) _ (c .before .verdict .given .1)
 
 pub finish-spec : {M : Type 1} → statement M
 finish-spec =
