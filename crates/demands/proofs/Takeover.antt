@@ -17,13 +17,13 @@ use Rattle.checks.proofs.Numbers.{passes}
 use Rattle.words.specs.Word.{kindOf, dataOf, packed, sameWords, latest}
 use Rattle.words.specs.Encode.{checksumOf, wordsFrom, sent, valuesOf, wordsOf}
 use Rattle.words.specs.Decode.{layoutOf, settingsOf}
-use Rattle.words.proofs.Words.{length-words}
+use Rattle.words.proofs.Words.{length-words, sent-size}
 use Rattle.words.proofs.Widths.{Below}
 use Rattle.reader.specs.Pending.{Outcome, Refused, Stored, Complete}
 use Rattle.reader.specs.Read.{layoutIn, readOf}
 use Rattle.roundtrip.specs.Stream.{pendingAfter, EndsIn}
 use Rattle.checks.proofs.Sends.{sends}
-use Rattle.roundtrip.proofs.Values.{values-read, padded, sent-size, sent-below, settings-padded}
+use Rattle.roundtrip.proofs.Values.{values-read, padded, sent-below, settings-padded}
 use Rattle.roundtrip.proofs.Once.{from-start, ends-latest}
 use Rattle.roundtrip.proofs.Completed.{completes, completed}
 use Rattle.rules.specs.Axis.{Active, Nothing, Set}

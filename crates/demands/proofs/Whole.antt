@@ -19,7 +19,8 @@ use Rattle.roundtrip.specs.ReadInto.{ReadInto, last, more}
 use Rattle.roundtrip.specs.Stream.{pendingFrom}
 use Rattle.layouts.proofs.Sizes.{size-below}
 use Rattle.checks.proofs.Sends.{sends}
-use Rattle.roundtrip.proofs.Values.{sent-size, sent-below}
+use Rattle.words.proofs.Words.{sent-size}
+use Rattle.roundtrip.proofs.Values.{sent-below}
 use Rattle.roundtrip.proofs.There.{there}
 use Rattle.roundtrip.proofs.Back.{layout-2-holds}
 use Rattle.roundtrip.proofs.Completed.{last-completes, snoc-inj}

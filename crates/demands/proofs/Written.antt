@@ -1,7 +1,7 @@
 -- What the writer fills a buffer with is taken over as the settings that it was given: it accepts what may be sent, and its words are theirs.
 -- Assumes nothing.
-use Prim.Native.Nat.{ℕ, _+_, _≤_}
-use mathlib.Core.Path.{_≡_, refl, ap, _∙_}
+use Prim.Native.Nat.{ℕ, _≤_}
+use mathlib.Core.Path.{_≡_, refl, _∙_}
 use mathlib.Core.Bool.{Bool, true, false, cond, not}
 use mathlib.Core.List.{List}
 use borrow.Author.Tests.{ltb-false}
@@ -14,10 +14,9 @@ use Rattle.layouts.specs.Layout.{isLayout, longValue}
 use Rattle.checks.specs.Check.{verdictOf}
 use Rattle.checks.proofs.Numbers.{refused-accepted}
 use Rattle.words.specs.Encode.{sent, wordsOf}
-use Rattle.words.proofs.Words.{length-sealed}
+use Rattle.words.proofs.Words.{words-size}
 use Rattle.writer.specs.Write.{needed, bufferTooShort, writeVerdict, written}
 use Rattle.writer.proofs.Numbers.{accepts-exactly}
-use Rattle.roundtrip.proofs.Values.{sent-size}
 use Rattle.demands.specs.Whole.{WrittenTrip}
 use Rattle.demands.proofs.Whole.{round-trip}
 
@@ -33,8 +32,7 @@ module _ (layout : ℕ) (s : Settings) (buffer : List ℕ) (v : writeVerdict lay
       go false false e r = ltb-false (length buffer) (needed layout) e
 
   front : take (needed layout) (written layout s buffer) ≡ wordsOf layout s
-  unfolding wordsOf
-  front = rw v (take-at (wordsOf layout s) (drop (needed layout) buffer) (needed layout) (length-sealed (sent layout s) ∙ ap (λ (n : ℕ). n + 1) (sent-size layout s)))
+  front = rw v (take-at (wordsOf layout s) (drop (needed layout) buffer) (needed layout) (words-size layout s))
 
 pub written-trip : WrittenTrip
 written-trip a layout s buffer es w v e idle =

@@ -17,7 +17,8 @@ use Rattle.words.specs.Decode.{settingsOf}
 use Rattle.roundtrip.specs.Stream.{EndsIn}
 use Rattle.roundtrip.specs.Unique.{OneEnd}
 use Rattle.checks.proofs.Sends.{sends}
-use Rattle.roundtrip.proofs.Values.{values-read, padded, rest, sent-is, sent-size}
+use Rattle.words.proofs.Words.{sent-size}
+use Rattle.roundtrip.proofs.Values.{values-read, padded, rest, sent-is}
 use Rattle.roundtrip.proofs.There.{small-layout}
 
 -- no start word among words of kinds above 0

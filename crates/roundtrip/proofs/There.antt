@@ -19,6 +19,7 @@ use Rattle.checks.proofs.Numbers.{passes}
 use Rattle.words.specs.Word.{kindOf, dataOf, packed}
 use Rattle.words.specs.Encode.{checksumOf, wordsFrom, sent, valuesOf, wordsOf}
 use Rattle.words.specs.Decode.{settingsOf}
+use Rattle.words.proofs.Words.{sent-size}
 use Rattle.words.proofs.Widths.{Below}
 use Rattle.kinds.specs.Fields.{fieldOk}
 use Rattle.reader.specs.Pending.{Pending, Reading}
@@ -28,7 +29,7 @@ use Rattle.reader.proofs.Steps.{read-start, read-end, read-field}
 use Rattle.roundtrip.specs.Unique.{ReadsBack}
 use Rattle.roundtrip.specs.ReadInto.{ReadInto, last, more}
 use Rattle.checks.proofs.Sends.{sends}
-use Rattle.roundtrip.proofs.Values.{InFields, values-read, padded, rest, sent-is, sent-size, sent-below, sent-in-fields, checksum-padded}
+use Rattle.roundtrip.proofs.Values.{InFields, values-read, padded, rest, sent-is, sent-below, sent-in-fields, checksum-padded}
 use Rattle.roundtrip.proofs.Run.{pendingOf, kept-is}
 
 pub small-layout : (l : ℕ) → isLayout l ≡ true → l < 2 ^ 28

@@ -8,7 +8,7 @@ use mathlib.Core.List.{List, [], _∷_, _++_}
 use native.Mathlib.Omega.{arith}
 use borrow.Author.Tests.{lt-ltb}
 use lib.Dec.{eqb}
-use lib.ListN.{length, take, drop, replicate, getD}
+use lib.ListN.{take, drop, replicate, getD}
 use Rattle.counts.specs.Wrap.{modulo}
 use Rattle.settings.specs.declared.Settings.{Settings}
 use Rattle.settings.specs.Ranges.{inRange}
@@ -120,14 +120,6 @@ module _ (l : ℕ) (s : Settings) where
   sent-is = go (eqb l 1) refl
     where
       go : (b : Bool) → eqb l 1 ≡ b → sent l s ≡ l ∷ rest
-      go true e = rw e
-      go false e = rw e
-
-  pub sent-size : length (sent l s) ≡ size l
-  unfolding valuesOf
-  sent-size = go (eqb l 1) refl
-    where
-      go : (b : Bool) → eqb l 1 ≡ b → length (sent l s) ≡ size l
       go true e = rw e
       go false e = rw e
 

@@ -9,16 +9,14 @@ use borrow.Author.Tests.{ltb-false}
 use lib.Dec.{eqb, leb}
 use lib.IntN.{ℤ, pos, negsuc}
 use lib.ListN.{length, drop, length-append, length-drop, length-replicate}
-use lib.Seq.{length-take-le}
 use Rattle.settings.specs.declared.Settings.{Settings}
 use Rattle.settings.specs.declared.Verdict.{Verdict}
 use Rattle.settings.specs.declared.Verdict.the-variants.{Accepted, Refused}
 use Rattle.settings.specs.Refusal.{verdictNumber}
-use Rattle.layouts.specs.Layout.{isLayout, size}
-use Rattle.layouts.proofs.Sizes.{size-below}
+use Rattle.layouts.specs.Layout.{isLayout}
 use Rattle.answers.specs.declared.Answer.{Answer}
-use Rattle.words.specs.Encode.{valuesOf, sent, wordsOf}
-use Rattle.words.proofs.Words.{length-sealed}
+use Rattle.words.specs.Encode.{wordsOf}
+use Rattle.words.proofs.Words.{words-size}
 use Rattle.writer.specs.Write.{needed, bufferTooShort, writeVerdict, bufferAfter, written}
 use Rattle.sheets.specs.declared.Writing.{Writing}
 use Rattle.numerals.specs.Writing.{glyph, digits, hexadecimal, decimal, whole}
@@ -111,13 +109,11 @@ words-short (w ∷ ws) = within (both (both (all (32 ∷ [])) (hexadecimal-short
 
 -- the writer keeps the buffer's length
 kept : (layout : ℕ) (s : Settings) (buffer : List ℕ) → length (written layout s buffer) ≡ length buffer
-unfolding writeVerdict wordsOf valuesOf
+unfolding writeVerdict
 kept layout s buffer = go (not (isLayout layout)) (bufferTooShort layout buffer) refl refl
   where
     filled : (v : Verdict) → needed layout ≤ length buffer → length (bufferAfter v layout s buffer) ≡ length buffer
-    filled Accepted h =
-        let b = size-below layout in
-        omega (arith, h, length-append (wordsOf layout s) (drop (needed layout) buffer), length-sealed (sent layout s), length-take-le (size layout) (valuesOf layout s) (omega arith), length-drop (needed layout) buffer)
+    filled Accepted h = omega (arith, length-append (wordsOf layout s) (drop (needed layout) buffer), words-size layout s, length-drop (needed layout) buffer)
     filled (Refused r) h = refl
 
     go : (u t : Bool) → not (isLayout layout) ≡ u → bufferTooShort layout buffer ≡ t → length (written layout s buffer) ≡ length buffer

@@ -2,12 +2,16 @@
 -- Assumes nothing.
 use Prim.Native.Nat.{ℕ, zero, suc, _+_, _<_}
 use mathlib.Core.Path.{_≡_, refl, ap, _∙_}
+use mathlib.Core.Bool.{Bool, true, false}
 use mathlib.Core.List.{List, [], _∷_, _++_}
 use native.Mathlib.Omega.{arith}
 use native.Mathlib.Nat.{not-suc-le-zero, le-of-suc-le-suc}
 use lib.ListN.{length, take, drop, set, getD, length-append}
+use lib.Dec.{eqb}
+use Rattle.settings.specs.declared.Settings.{Settings}
+use Rattle.layouts.specs.Layout.{size}
 use Rattle.words.specs.Word.{packed}
-use Rattle.words.specs.Encode.{total, checksumOf, wordsFrom, sealed}
+use Rattle.words.specs.Encode.{valuesOf, total, checksumOf, wordsFrom, sealed, sent, wordsOf}
 
 -- a store past what is filled fills one word more
 pub stored : (filled buffer : List ℕ) (n x : ℕ) → length filled ≡ n → n < length buffer
@@ -39,5 +43,18 @@ total-more [] i h = absurd (not-suc-le-zero h)
 total-more (x ∷ d) zero h = omega arith
 total-more (x ∷ d) (suc i) h = let e = total-more d i (le-of-suc-le-suc h) in omega arith
 
-pub length-sealed : (d : List ℕ) → length (sealed d) ≡ length d + 1
+length-sealed : (d : List ℕ) → length (sealed d) ≡ length d + 1
 length-sealed d = length-append (wordsFrom 0 d) (packed 15 (checksumOf d) ∷ []) ∙ ap (λ (n : ℕ). n + 1) (length-words 0 d)
+
+-- what a layout sends, and its words
+pub sent-size : (layout : ℕ) (s : Settings) → length (sent layout s) ≡ size layout
+unfolding valuesOf
+sent-size layout s = go (eqb layout 1) refl
+  where
+    go : (b : Bool) → eqb layout 1 ≡ b → length (sent layout s) ≡ size layout
+    go true e = rw e
+    go false e = rw e
+
+pub words-size : (layout : ℕ) (s : Settings) → length (wordsOf layout s) ≡ size layout + 1
+unfolding wordsOf
+words-size layout s = length-sealed (sent layout s) ∙ ap (λ (n : ℕ). n + 1) (sent-size layout s)
