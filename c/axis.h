@@ -44,13 +44,13 @@ uint32_t axis_word(uint32_t axis[AXIS_WORDS], uint32_t word);
  * other six are 0 and the axis stays as it was. The floats are looked at by a hybrid command alone, but seven are lent in each call. */
 uint32_t axis_tick(uint32_t axis[AXIS_WORDS], const uint32_t event[AXIS_EVENT], const float floats[AXIS_FLOATS], uint32_t answer[AXIS_ANSWER]);
 
-/* The layouts of the words that carry settings. Either means the same to an axis; ask for AXIS_LAYOUT_1 where an older axis is to read them too. */
+/* The layouts of the words that carry settings. What both hold means the same in either; ask for AXIS_LAYOUT_1 where an older axis is to read it too. */
 enum {
     AXIS_LAYOUT_1 = 1, /* 15 words; home offset and software position limits from -2^27 to 2^27 - 1 */
-    AXIS_LAYOUT_2 = 2  /* 16 words; holds every setting */
+    AXIS_LAYOUT_2 = 2  /* 16 words; holds all settings */
 };
 
-/* Writes settings as the words of a layout to the front of a buffer of `length` words, and leaves the rest of it alone. Returns AXIS_ACCEPTED, or the
+/* Writes settings as the words of a layout, 15 or 16 of them, to the front of a buffer of `length` words, and leaves the rest of it alone. Returns AXIS_ACCEPTED, or the
  * refusal, tested in the order 2, 9, 10, 3, 5, 6, and then leaves all of it alone. The length has 64 bits on a 32-bit machine too. */
 uint32_t axis_write(uint32_t layout, const uint32_t fields[AXIS_FIELDS], uint32_t *buffer, uint64_t length);
 

@@ -26,7 +26,7 @@ use Rattle.rules.specs.Word.{taken, wordOf}
 use Rattle.patterns.specs.Patterns.{wordAt}
 use Rattle.cells.specs.Lists.{cellsFrom, valuesFrom}
 use Rattle.cells.specs.Cells.{valueIn, pendingIn, motionIn, axisIn, motionWords, MotionKept}
-use Rattle.cells.specs.Writes.{Pends, more, Emptied, InputsKept, fieldsIn, valuesIn, TakenOver}
+use Rattle.cells.specs.Writes.{Pends, more, Emptied, InputsKept, firstValuesIn, valuesIn, TakenOver}
 use Rattle.cells.proofs.Laws.{cells-past}
 use Rattle.axis.specs.Calls.{Takes, WordCall, readIn, completedIn, Completes}
 
@@ -76,7 +76,7 @@ pub live-end : (l : List ℕ) (s : Settings) → liveOf (motionIn l .state) ≡ 
 unfolding axisIn
 live-end l s e = record { axis = rw e; verdict = rw e; inputs = record { before = refl; after = refl }; kept = λ n. refl }
 
-pub takeover-end : (l m : List ℕ) (s : Settings) → s ≡ settingsFrom (s .offset) (s .lower) (s .upper) (fieldsIn l) → liveOf (motionIn l .state) ≡ false
+pub takeover-end : (l m : List ℕ) (s : Settings) → s ≡ settingsFrom (s .offset) (s .lower) (s .upper) (firstValuesIn l) → liveOf (motionIn l .state) ≡ false
     → TakenOver l (s .offset) (s .lower) (s .upper) m → Completes l s m Accepted
 unfolding axisIn
 takeover-end l m s q e c =
@@ -109,11 +109,11 @@ module _ {l : List ℕ} {sum : ℕ} {s : Settings} {w : Verdict} {m : List ℕ} 
   ended = rw (come l (c .due), c .verdict, c .settings)
 
   -- emptied words leave the values
-  pub rebuilt : s ≡ settingsFrom (s .offset) (s .lower) (s .upper) (fieldsIn m)
+  pub rebuilt : s ≡ settingsFrom (s .offset) (s .lower) (s .upper) (firstValuesIn m)
   unfolding settingsOf
   rebuilt =
       let e = c .settings in
-      let same : fieldsIn m ≡ fieldsIn l = ap fieldsIn (c .emptied .words) ∙ cells-past l 22 0 23 14 (omega arith) in
+      let same : firstValuesIn m ≡ firstValuesIn l = ap firstValuesIn (c .emptied .words) ∙ cells-past l 22 0 23 14 (omega arith) in
       e ∙ ap₂ (λ (x : Settings) (d : List ℕ). settingsFrom (x .offset) (x .lower) (x .upper) d) (sym e) (sym same)
 
   pub refused-end : (r : Refusal) → w ≡ Refused r → Takes l true (readIn l (endRead (pendingIn l) sum)) m (Refused r)

@@ -15,7 +15,7 @@ ghost use Rattle.layouts.specs.Layout.{size};
 ghost use Rattle.words.specs.Decode.{settingsFrom};
 ghost use Rattle.reader.specs.Read.{layoutIn, startRead, fieldRead, endRead};
 ghost use Rattle.cells.specs.Cells.{pendingIn};
-ghost use Rattle.cells.specs.Writes.{fieldsIn};
+ghost use Rattle.cells.specs.Writes.{firstValuesIn};
 ghost use Rattle.axis.specs.Calls.{FreshCall, Takes, readIn, Completes, WordCall, TickCall};
 
 // A fresh axis: no settings, nothing pending, Not ready, homing idle.
@@ -54,7 +54,7 @@ fn store(axis: &mut Lent, kind: u32, value: u32) -> Verdict
 
 // Complete settings come into force (01: takeover), unless the drive is live.
 fn complete(axis: &mut Lent, s: Settings) -> Verdict
-    requires { ⌜ s ≡ settingsFrom (s .offset) (s .lower) (s .upper) (fieldsIn (now axis)) ⌝ }
+    requires { ⌜ s ≡ settingsFrom (s .offset) (s .lower) (s .upper) (firstValuesIn (now axis)) ⌝ }
     ensures { λ r. ⌜ Completes (now (axis .entry)) s (now (axis .exit)) r ⌝ }
 {
     let state = cells::state(axis);

@@ -52,12 +52,12 @@ pub record InputsKept (l m : List ℕ) : Type 0 where
   pub after : drop 4 (motionWords m) ≡ drop 4 (motionWords l)
 
 -- the words of the pending values of kinds 0 to 13 as they stand; all of them have come where an end word is due
-abbrev pub fieldsIn : List ℕ → List ℕ
-fieldsIn l = cellsFrom 23 14 l
+abbrev pub firstValuesIn : List ℕ → List ℕ
+firstValuesIn l = cellsFrom 23 14 l
 
 -- and kind 14's, which has come in layout 2 alone
 abbrev pub valuesIn : List ℕ → List ℕ
-valuesIn l = fieldsIn l ++ valueIn l 14 ∷ []
+valuesIn l = firstValuesIn l ++ valueIn l 14 ∷ []
 
 -- the words of kinds 1 to k in force are the pending ones
 abbrev pub copied : ℕ → List ℕ → List ℕ
@@ -66,7 +66,7 @@ copied (suc k) l = set (copied k l) (9 + k) (wordAt l (24 + k))
 
 -- the settings of these values come into force, with offset and limits given
 pub record TakenOver (l : List ℕ) (offset lower upper : ℤ) (m : List ℕ) : Type 0 where
-  pub axis : axisIn m ≡ record { active = Set (settingsFrom offset lower upper (fieldsIn l)); pending = pendingIn l; motion = idled (motionIn l) }
+  pub axis : axisIn m ≡ record { active = Set (settingsFrom offset lower upper (firstValuesIn l)); pending = pendingIn l; motion = idled (motionIn l) }
   pub pending : PendingKept l m
   pub motion : InputsKept l m
 

@@ -17,7 +17,7 @@ ghost use Rattle.patterns.specs.Patterns.{wordAt};
 ghost use Rattle.ticks.specs.Motion.{driven, phased, homeAt, fed};
 ghost use Rattle.cells.specs.Lists.{cellsFrom};
 ghost use Rattle.cells.specs.Cells.{settingsIn, valueIn, pendingIn, motionIn};
-ghost use Rattle.cells.specs.Writes.{Cleared, Emptied, Begun, Appended, fieldsIn, valuesIn, copied, TakenOver, Moved};
+ghost use Rattle.cells.specs.Writes.{Cleared, Emptied, Begun, Appended, firstValuesIn, valuesIn, copied, TakenOver, Moved};
 
 // The lent words: motion, the settings in force, what is pending. Motion comes first: a Cortex-M0 reaches the first 32 words of an array in one
 // instruction, and a tick reads and writes motion throughout.
@@ -139,8 +139,8 @@ pub fn layout(axis: &Lent) -> u32
 }
 
 // Their values of kinds 0 to 13, where all have come.
-fn values(axis: &Lent) -> [u32; 14]
-    ensures { λ r. ⌜ r ≡ fieldsIn (now (axis .entry)) ⌝ }
+fn first_values(axis: &Lent) -> [u32; 14]
+    ensures { λ r. ⌜ r ≡ firstValuesIn (now (axis .entry)) ⌝ }
 {
     [
         axis[VALUES],
@@ -171,7 +171,7 @@ fn tops(axis: &Lent) -> u32
 pub fn pending_settings(axis: &Lent) -> Settings
     ensures { λ r. ⌜ r ≡ settingsOf (valuesIn (now (axis .entry))) ⌝ }
 {
-    let values = values(axis);
+    let values = first_values(axis);
     decoder::decode(values, tops(axis))
 }
 

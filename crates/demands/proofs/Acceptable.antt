@@ -13,7 +13,7 @@ use Rattle.settings.proofs.Within.{both}
 use Rattle.gears.specs.Gear.{inReach}
 use Rattle.checks.specs.Check.{limitsApart, acceptable, sendable}
 use Rattle.words.specs.Encode.{wordsOf}
-use Rattle.words.specs.Decode.{layoutOf, positionOf}
+use Rattle.words.specs.Decode.{layoutOf, positionFrom}
 use Rattle.checks.proofs.Sends.{sends}
 use Rattle.states.specs.States.{liveOf}
 use Rattle.commands.specs.Commands.{wholeDemand}
@@ -99,7 +99,7 @@ plain-answers es t s e =
     })
 
 pub plain-data : PlainData
-unfolding positionOf
+unfolding positionFrom
 plain-data =
     record {
       layout1 = λ w top. ap (signed 28) (omega arith);

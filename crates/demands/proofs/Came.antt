@@ -42,7 +42,7 @@ later c fs =
       before = c .before;
       last = c .last;
       after = c .after ++ fs;
-      idle = c .idle;
+      not-live = c .not-live;
       took = c .took;
       layout = c .layout;
       cut = ap (λ (gs : List Event). gs ++ fs) (c .cut) ∙ append-assoc (c .before) (word (c .last) ∷ c .after) fs;
@@ -63,9 +63,9 @@ module _ (es : List Event) (k : Known) (h : Told es k) where
       completes s true e = let z : _≡_ {A = ℕ} 0 1 = cc in absurd (omega arith)
       completes s false e = subst (λ (us : List ℕ). EndsIn (layoutOf (latest ws)) s (us ++ w ∷ [])) (h .words) (sound s ws e)
 
-      not-live : {s : Settings} (live : Bool) → cond live Nothing (completedBy ws) ≡ Set s → live ≡ false
-      not-live true e = let z : _≡_ {A = ℕ} 0 1 = cc in absurd (omega arith)
-      not-live false e = refl
+      dead : {s : Settings} (live : Bool) → cond live Nothing (completedBy ws) ≡ Set s → live ≡ false
+      dead true e = let z : _≡_ {A = ℕ} 0 1 = cc in absurd (omega arith)
+      dead false e = refl
 
       told : knownFrom atFirst (es ++ word w ∷ []) ≡ next k (word w)
       told = known-append atFirst es (word w ∷ []) ∙ ap (λ (j : Known). next j (word w)) (h .is)
@@ -85,7 +85,7 @@ module _ (es : List Event) (k : Known) (h : Told es k) where
                   last = w;
                   after = [];
                   cut = refl;
-                  idle = subst (λ (m : State). liveOf m ≡ false) (sym (matches es .state ∙ ap (λ (j : Known). j .state) (h .is))) (not-live (liveOf (k .state)) e);
+                  not-live = subst (λ (m : State). liveOf m ≡ false) (sym (matches es .state ∙ ap (λ (j : Known). j .state) (h .is))) (dead (liveOf (k .state)) e);
                   took = matches (es ++ word w ∷ []) .active ∙ ap (λ (j : Known). j .settings) (told ∙ step e) ∙ q;
                   layout = layoutOf (latest ws);
                   words = completes s (liveOf (k .state)) (e ∙ q);

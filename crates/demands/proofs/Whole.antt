@@ -22,7 +22,6 @@ use Rattle.checks.proofs.Sends.{sends}
 use Rattle.words.proofs.Words.{sent-size}
 use Rattle.roundtrip.proofs.Values.{sent-below}
 use Rattle.roundtrip.proofs.There.{there}
-use Rattle.roundtrip.proofs.Back.{layout-2-holds}
 use Rattle.roundtrip.proofs.Completed.{last-completes, snoc-inj}
 use Rattle.rules.specs.Axis.{Axis, Worded}
 use Rattle.ticks.specs.declared.Tick.{Tick}
@@ -31,7 +30,7 @@ use Rattle.rules.specs.Tick.{tickOf}
 use Rattle.rules.proofs.Refused.{left-empty, refused-word, pending-unseen}
 use Rattle.demands.specs.Events.{Event, word, tick}
 use Rattle.demands.specs.Replies.{leftBy, axisFrom, repliesFrom}
-use Rattle.demands.specs.Whole.{PendingUnseen, RefusedUnseen, wordsIn, AllAccepted, afterTakeover, RoundTrip, RewrittenTrip}
+use Rattle.demands.specs.Whole.{PendingUnseen, RefusedUnseen, wordsIn, AllAccepted, afterTakeover, RoundTrip}
 
 -- ---- no tick sees what is pending
 
@@ -136,6 +135,3 @@ round-trip a l s es w ok e idle =
   where
     unstored : Complete s ≡ Stored → ⊥
     unstored q = let z : _≡_ {A = ℕ} 0 1 = cc in omega arith
-
-pub rewritten-trip : RewrittenTrip
-rewritten-trip a s es w ok e idle = round-trip a 2 s es w (layout-2-holds s (sends 1 s ok .good)) e idle

@@ -1,4 +1,5 @@
--- What the writer fills a buffer with is taken over as the settings that it was given: it accepts what may be sent, and its words are theirs.
+-- What the writer fills a buffer with is taken over as the settings that it was given: it accepts what may be sent, and its words are theirs. Layout 2 may
+-- send what layout 1 may.
 -- Assumes nothing.
 use Prim.Native.Nat.{ℕ, _≤_}
 use mathlib.Core.Path.{_≡_, refl, _∙_}
@@ -13,11 +14,13 @@ use Rattle.settings.specs.declared.Verdict.the-variants.{Accepted, Refused}
 use Rattle.layouts.specs.Layout.{isLayout, longValue}
 use Rattle.checks.specs.Check.{verdictOf}
 use Rattle.checks.proofs.Numbers.{refused-accepted}
+use Rattle.checks.proofs.Sends.{sends}
 use Rattle.words.specs.Encode.{sent, wordsOf}
 use Rattle.words.proofs.Words.{words-size}
 use Rattle.writer.specs.Write.{needed, bufferTooShort, writeVerdict, written}
 use Rattle.writer.proofs.Numbers.{accepts-exactly}
-use Rattle.demands.specs.Whole.{WrittenTrip}
+use Rattle.roundtrip.proofs.Back.{layout-2-holds}
+use Rattle.demands.specs.Whole.{WrittenTrip, RewrittenTrip}
 use Rattle.demands.proofs.Whole.{round-trip}
 
 module _ (layout : ℕ) (s : Settings) (buffer : List ℕ) (v : writeVerdict layout s buffer ≡ Accepted) where
@@ -37,3 +40,8 @@ module _ (layout : ℕ) (s : Settings) (buffer : List ℕ) (v : writeVerdict lay
 pub written-trip : WrittenTrip
 written-trip a layout s buffer es w v e idle =
     round-trip a layout s es w (accepts-exactly layout s buffer (long-enough layout s buffer v) .0 v) (e ∙ front layout s buffer v) idle
+
+pub rewritten-trip : RewrittenTrip
+rewritten-trip a s buffer ok h =
+    let v = accepts-exactly 2 s buffer h .1 (layout-2-holds s (sends 1 s ok .good)) in
+    record { accepted = v; taken-over = λ es w e idle. written-trip a 2 s buffer es w v e idle }

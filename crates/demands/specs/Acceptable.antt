@@ -10,7 +10,7 @@ use Rattle.counts.specs.Wrap.{signed}
 use Rattle.settings.specs.declared.Settings.{Settings}
 use Rattle.checks.specs.Check.{acceptable}
 use Rattle.words.specs.Word.{dataOf}
-use Rattle.words.specs.Decode.{positionOf}
+use Rattle.words.specs.Decode.{positionFrom}
 use Rattle.commands.specs.Commands.{wholeDemand}
 use Rattle.torque.specs.Torque.{plainTorque}
 use Rattle.speed.specs.Speed.{plainSpeed}
@@ -43,5 +43,5 @@ PlainAnswers =
 -- "two's complement over 28 bits", and in layout 2 "32-bit signed": what a word carries is below 2 ^ 28, and four bits are below 2 ^ 4, so that a
 -- position is read with no guard
 pub record PlainData : Type 0 where
-  pub layout1 : (w top : ℕ) → positionOf 1 (dataOf w) top ≡ signed 28 (dataOf w)
-  pub layout2 : (w top : ℕ) → top < 2 ^ 4 → positionOf 2 (dataOf w) top ≡ signed 32 (dataOf w + top * 2 ^ 28)
+  pub layout1 : (w top : ℕ) → positionFrom 1 (dataOf w) top ≡ signed 28 (dataOf w)
+  pub layout2 : (w top : ℕ) → top < 2 ^ 4 → positionFrom 2 (dataOf w) top ≡ signed 32 (dataOf w + top * 2 ^ 28)

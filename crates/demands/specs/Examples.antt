@@ -22,7 +22,7 @@ use Rattle.checks.specs.Check.{limitsVerdict, verdictOf, acceptable}
 use Rattle.settings.specs.Ranges.{positionsFit, inRange}
 use Rattle.words.specs.Word.{sameWords, latest}
 use Rattle.words.specs.Encode.{valuesOf, total, checksumOf, wordsFrom, wordsOf}
-use Rattle.words.specs.Decode.{positionOf, settingsOf}
+use Rattle.words.specs.Decode.{positionFrom, settingsOf}
 use Rattle.kinds.specs.Fields.{fieldOk}
 use Rattle.writer.specs.Write.{writeVerdict}
 use Rattle.reader.specs.Read.{startRead, fieldRead, endVerdict, endRead, readOf}
@@ -204,5 +204,5 @@ readings =
     ∷ []
 
 holds : (all table ≡ true) × (all further ≡ true) × (all longRails ≡ true) × (all readings ≡ true)
-unfolding table further longRails readings words-S words-S-2 settings-S modulo signed wrapped fits floorDiv clamped methodOk positionsFit inRange gearedOf inReach limitsVerdict verdictOf acceptable writeVerdict valuesOf total checksumOf wordsFrom wordsOf latest positionOf settingsOf fieldOk startRead fieldRead endVerdict endRead readOf controlCommandOf nextState leastSet alarmNumberOf quotientOf sizeOf negative wholePart ofBits sub mul div ofInt eventCounts limitCounts rowOf mainRoute turnRoute skipRoute skips startRoute steps.runningOf steps.startOf signedOf capOf torqueOf countOf statuswordOf answerIn answeredIn wordOf newPhase tickOf completedBy withBit31
+unfolding table further longRails readings words-S words-S-2 settings-S modulo signed wrapped fits floorDiv clamped methodOk positionsFit inRange gearedOf inReach limitsVerdict verdictOf acceptable writeVerdict valuesOf total checksumOf wordsFrom wordsOf latest positionFrom settingsOf fieldOk startRead fieldRead endVerdict endRead readOf controlCommandOf nextState leastSet alarmNumberOf quotientOf sizeOf negative wholePart ofBits sub mul div ofInt eventCounts limitCounts rowOf mainRoute turnRoute skipRoute skips startRoute steps.runningOf steps.startOf signedOf capOf torqueOf countOf statuswordOf answerIn answeredIn wordOf newPhase tickOf completedBy withBit31
 holds = (refl, refl, refl, refl)

@@ -4,6 +4,7 @@
 use Prim.Native.Nat.{ℕ, _+_, _-_, _^_}
 use mathlib.Core.Bool.{Bool, _&&_}
 use mathlib.Core.List.{List, [], _∷_, _++_, map}
+use lib.Dec.{eqb}
 use lib.IntN.{ℤ, pos}
 use lib.ListN.{take, drop, replicate}
 use Rattle.counts.specs.Tests.{minus}
@@ -49,14 +50,14 @@ homed-under s = map word (wordsOf 2 s) ++ enabling ++ start 10 HOM ∷ at 0 off 
 abbrev follows : Settings → ℤ → List ℤ
 follows s target = map position (after (homed-under s) (ask (Position target (pos 0)) ∷ []))
 
--- the settings in force, as words of layout 1
-abbrev short : Active → List ℕ
-short Nothing = []
-short (Set s) = wordsOf 1 s
+-- the settings in force, as words of layout 2, which holds all
+abbrev in-force : Active → List ℕ
+in-force Nothing = []
+in-force (Set s) = wordsOf 2 s
 
 -- after these words S is in force: by the axis, and by the list alone
 abbrev in-force-S : List ℕ → Bool
-in-force-S ws = sameWords (short (axisOf (map word ws) .active)) words-S && sameWords (short (known (map word ws) .settings)) words-S
+in-force-S ws = sameWords (in-force (axisOf (map word ws) .active)) words-S-2 && sameWords (in-force (known (map word ws) .settings)) words-S-2
 
 -- the numbers that some words are answered with
 abbrev numbers : List ℕ → List ℕ
@@ -66,7 +67,7 @@ numbers ws = map number (replies (map word ws))
 abbrev writes : ℕ → Settings → ℕ → ℕ
 writes layout s length = verdictNumber (writeVerdict layout s (replicate length 0))
 
--- offset, lower and upper limit one beyond 28 bits, and all three at their edges
+-- one beyond 28 bits: the offset either way, the lower limit below, the upper above; and all three at their edges
 abbrev beyond : List Settings
 beyond =
     railed (pos (2 ^ 27)) (pos 0) (pos 1) []
@@ -117,11 +118,12 @@ longRails =
     -- 9: fewer words than the layout has, and then nothing is written
     ∷ sameWords (writes 1 settings-S 14 ∷ writes 1 settings-S 15 ∷ writes 2 settings-S 15 ∷ writes 2 settings-S 16 ∷ []) (9 ∷ 0 ∷ 9 ∷ 0 ∷ [])
     ∷ sameWords (written 2 settings-S (replicate 15 7)) (replicate 15 7)
-    -- 10: from 2^27 on, and below −2^27, each of the three, in layout 1 alone
+    -- 10: from 2^27 on, and below −2^27, in layout 1 alone
     ∷ sameWords (map (λ s. writes 1 s 16) beyond) (replicate 4 10)
     ∷ sameWords (map (λ s. writes 2 s 16) beyond) (replicate 4 0)
     ∷ sameWords (map (λ s. writes 1 s 16) edges) (0 ∷ 0 ∷ [])
-    -- the order of the tests: each of these meets all that come after it too
+    -- the order of the tests: each of these meets what comes after it too, where its layout can
     ∷ sameWords (writes 0 crossed 0 ∷ writes 3 crossed 0 ∷ writes (2 ^ 32 - 1) crossed 16 ∷ []) (2 ∷ 2 ∷ 2 ∷ [])
     ∷ sameWords (writes 1 crossed 14 ∷ writes 1 crossed 15 ∷ writes 2 crossed 15 ∷ writes 2 crossed 16 ∷ []) (9 ∷ 10 ∷ 9 ∷ 3 ∷ [])
+    ∷ eqb (writes 2 (railed (pos 0) (pos (2 ^ 31 - 1)) (pos 0) []) 16) 5
     ∷ []

@@ -1,11 +1,11 @@
 -- Demands 1 and 2 over lists of events: no tick after a refused word tells that it came; the words of acceptable settings, in each layout that holds
 -- them, have them taken over, whatever ticks fall between; and settings are in force only where their own words have come.
 -- Assumes nothing.
-use Prim.Native.Nat.{ℕ}
+use Prim.Native.Nat.{ℕ, _≤_}
 use mathlib.Core.Path.{_≡_}
 use mathlib.Core.Bool.{true, false}
 use mathlib.Core.List.{List, [], _∷_, _++_, map}
-use lib.ListN.{take}
+use lib.ListN.{length, take}
 use Rattle.settings.specs.declared.Settings.{Settings}
 use Rattle.settings.specs.declared.Verdict.the-variants.{Accepted}
 use Rattle.settings.specs.Refusal.{verdictNumber}
@@ -17,7 +17,7 @@ use Rattle.reader.specs.Read.{emptyPending}
 use Rattle.roundtrip.specs.Stream.{EndsIn}
 use Rattle.states.specs.States.{liveOf}
 use Rattle.ticks.specs.Motion.{idled}
-use Rattle.rules.specs.Axis.{Set, Axis}
+use Rattle.rules.specs.Axis.{Set, Axis, freshAxis}
 use Rattle.ticks.specs.declared.Tick.{Tick}
 use Rattle.rules.specs.Word.{withPending, wordOf}
 use Rattle.demands.specs.Events.{Event, word, tick}
@@ -76,12 +76,14 @@ WrittenTrip =
     (a : Axis) (layout : ℕ) (s : Settings) (buffer : List ℕ) (es : List Event) (w : ℕ) → writeVerdict layout s buffer ≡ Accepted
     → wordsIn es ++ w ∷ [] ≡ take (needed layout) (written layout s buffer) → NotLive a es → TakesOver a s es w
 
--- 02, (iv): "writing it in layout 2 and reading it loses nothing": the words of a layout 1 sheet in layout 2 have the same settings taken over, in
--- every field
+-- 02, (iv): "writing it in layout 2 and reading it loses nothing": the writer accepts a layout 1 sheet in layout 2, and what it fills the buffer with has the
+-- same settings taken over, in every field
+pub record Rewrites (a : Axis) (s : Settings) (buffer : List ℕ) : Type 0 where
+  pub accepted : writeVerdict 2 s buffer ≡ Accepted
+  pub taken-over : (es : List Event) (w : ℕ) → wordsIn es ++ w ∷ [] ≡ take (needed 2) (written 2 s buffer) → NotLive a es → TakesOver a s es w
+
 abbrev pub RewrittenTrip : Type 0
-RewrittenTrip =
-    (a : Axis) (s : Settings) (es : List Event) (w : ℕ) → sendable 1 s ≡ true → wordsIn es ++ w ∷ [] ≡ wordsOf 2 s
-    → NotLive a es → TakesOver a s es w
+RewrittenTrip = (a : Axis) (s : Settings) (buffer : List ℕ) → sendable 1 s ≡ true → needed 2 ≤ length buffer → Rewrites a s buffer
 
 -- a word of a list that took settings over: the drive was not live when it came, the words of those settings end at it, ticks aside, in a layout that
 -- holds them, and then they were in force
@@ -90,7 +92,7 @@ pub record Came (s : Settings) (es : List Event) : Type 0 where
   pub last : ℕ
   pub after : List Event
   pub cut : es ≡ before ++ word last ∷ after
-  pub idle : liveOf (axisOf before .motion .state) ≡ false
+  pub not-live : NotLive freshAxis before
   pub took : axisOf (before ++ word last ∷ []) .active ≡ Set s
   pub layout : ℕ
   pub words : EndsIn layout s (wordsIn before ++ last ∷ [])

@@ -8,10 +8,6 @@ use lib.ListN.{getD}
 use Rattle.layouts.specs.Layout.{isLayout}
 use Rattle.ranges.specs.Range.{methodOk, speedOk, ratioOk, torqueOk, optionOk, ratedOk}
 
--- "start (data 1)"; 02, (iv): "Layout 2 has start data 2"
-abbrev pub startOk : ℕ → Bool
-startOk x = isLayout x
-
 -- the low 28 bits of offset and stops: whatever they are, they are some number's
 abbrev pub anyData : ℕ → Bool
 anyData x = true
@@ -24,10 +20,10 @@ torqueLimitsOk x = torqueOk (x % 2 ^ 14) && torqueOk (x / 2 ^ 14)
 abbrev pub topsOk : ℕ → Bool
 topsOk x = ltb x (2 ^ 12)
 
--- the test of kind k's data stands at place k, from 0 on
+-- the test of kind k's data stands at place k, from 0 on; "start (data 1)", and "Layout 2 has start data 2"
 abbrev pub fields : List (ℕ → Bool)
 fields =
-    startOk
+    isLayout
     ∷ methodOk
     ∷ speedOk
     ∷ speedOk

@@ -25,12 +25,12 @@ use Rattle.reader.specs.Pending.{Pending, Reading, Outcome, Refused, Stored, Co
 use Rattle.kinds.specs.Fields.{fieldOk}
 use Rattle.reader.specs.Read.{emptyPending, layoutIn, refused, stored, complete, started, kept, readOf}
 use Rattle.reader.proofs.Accepted.{ReadBy, refuses, accepted, begins, keeps, closes, read-by}
-use Rattle.layouts.proofs.Sizes.{size-below}
+use Rattle.layouts.proofs.Sizes.{size-least, size-below}
 use Rattle.roundtrip.specs.ReadInto.{ReadInto, last, more}
 use Rattle.roundtrip.specs.Stream.{pendingFrom, pendingAfter, EndsIn}
 use Rattle.checks.proofs.Sends.{sendable-of}
 use Rattle.roundtrip.proofs.Values.{InFields, zeros, checksum-padded}
-use Rattle.roundtrip.proofs.Fifteen.{topsEnd, Sheet, carries}
+use Rattle.roundtrip.proofs.Fifteen.{topsEnd, Sent, carries}
 use Rattle.roundtrip.proofs.Run.{pendingOf, layout-of-run, kept-is}
 use Rattle.roundtrip.proofs.There.{there}
 
@@ -116,13 +116,6 @@ first-same : (xs : List ℕ) (x : ℕ) → (length xs ≡ 0 → ⊥) → layoutO
 first-same [] x h = absurd (h refl)
 first-same (y ∷ xs) x h = refl
 
-size-some : (l : ℕ) → 0 < size l
-size-some l = go (eqb l 1)
-  where
-    go : (b : Bool) → 0 < cond b 14 15
-    go true = omega arith
-    go false = omega arith
-
 -- one word more
 module _ (ws : List ℕ) (w : ℕ) (r : Run ws) where
   abbrev p : Pending
@@ -148,7 +141,7 @@ module _ (ws : List ℕ) (w : ℕ) (r : Run ws) where
             words = ap (λ (v : ℕ). ws ++ v ∷ []) (omega arith);
             fits = (omega arith, tt);
             fields = (h, tt);
-            short = size-some (dataOf w);
+            short = omega (arith, size-least (dataOf w));
             pending = left-by (stored (started (dataOf w))) e;
           }
       go (accepted (keeps k h z f e)) =
@@ -206,7 +199,7 @@ module _ (xs : List ℕ) (n : length xs ≡ size (layoutOf xs)) (b : Below xs) (
       let j = rw s at i in
       rw (m, append-nil xs) (i, rw s (ltb-true _ (2 ^ 12) (j .1 .1 .1 .1 .1 .1 .1 .1 .1 .1 .1 .1 .1 .1 .0)))
 
-  sheet : Sheet d
+  sheet : Sent d
   sheet =
       let h = size-below l in
       let e = ends (eqb l 1) refl in

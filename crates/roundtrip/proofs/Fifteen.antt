@@ -15,7 +15,7 @@ use Rattle.settings.specs.Ranges.{positionsFit, inRange}
 use Rattle.settings.proofs.Within.{both, whole}
 use Rattle.layouts.specs.Layout.{layoutHolds}
 use Rattle.words.specs.Encode.{valuesOf}
-use Rattle.words.specs.Decode.{at, layoutOf, offsetTop, lowerTop, upperTop, positionOf, settingsOf}
+use Rattle.words.specs.Decode.{at, layoutOf, offsetTop, lowerTop, upperTop, positionFrom, settingsOf}
 use Rattle.words.proofs.Bits.{position-low, position-top, position-fits, set-both}
 use Rattle.words.proofs.Spelled.{spell, spelled}
 use Rattle.words.proofs.Widths.{Below}
@@ -38,7 +38,7 @@ tops true x h = record { offset = omega arith; lower = omega arith; upper = omeg
 tops false x h = record { offset = omega arith; lower = omega arith; upper = omega arith; all = omega arith }
 
 holds-here : (d : List ℕ) → layoutHolds (layoutOf d) (settingsOf d) ≡ true
-unfolding settingsOf positionOf positionsFit
+unfolding settingsOf positionFrom positionsFit
 holds-here d =
     let b = eqb (layoutOf d) 1 in
     rw (
@@ -52,7 +52,7 @@ module _ (y m f l o n d a b t g h c r p : ℕ) where
   fifteen = y ∷ m ∷ f ∷ l ∷ o ∷ n ∷ d ∷ a ∷ b ∷ t ∷ g ∷ h ∷ c ∷ r ∷ p ∷ []
 
   values-here : Below fifteen → p < topsEnd (eqb y 1) → valuesOf y (settingsOf fifteen) ≡ fifteen
-  unfolding valuesOf settingsOf positionOf
+  unfolding valuesOf settingsOf positionFrom
   values-here e k =
       let u = tops (eqb y 1) p k in
       rw (
@@ -68,7 +68,7 @@ module _ (y m f l o n d a b t g h c r p : ℕ) where
       )
 
   range-here : InFields 0 fifteen → inRange (settingsOf fifteen) ≡ true
-  unfolding settingsOf positionOf fieldOk
+  unfolding settingsOf positionFrom fieldOk
   range-here i =
       let i₁ = i .1 .1 .1 in
       let i₂ = i₁ .1 .1 .1 in
@@ -76,17 +76,17 @@ module _ (y m f l o n d a b t g h c r p : ℕ) where
       let i₄ = i₃ .1 .1 .1 in
       let set1 = both (torqueOk (g % 2 ^ 14)) (torqueOk (g / 2 ^ 14)) (i₃ .1 .0) in
       let set2 = both (torqueOk (h % 2 ^ 14)) (torqueOk (h / 2 ^ 14)) (i₃ .1 .1 .0) in
-      let wide = eqb y 1 in
+      let short = eqb y 1 in
       whole (settingsOf fifteen)
       (record {
         method = i .1 .0;
         fast = i .1 .1 .0;
         slow = i₁ .0;
-        offset = fits-wider wide _ (position-fits wide (o + p % 2 ^ 4 * 2 ^ 28));
+        offset = fits-wider short _ (position-fits short (o + p % 2 ^ 4 * 2 ^ 28));
         numerator = i₁ .1 .1 .0;
         denominator = i₂ .0;
-        lower = fits-wider wide _ (position-fits wide (a + p / 2 ^ 4 % 2 ^ 4 * 2 ^ 28));
-        upper = fits-wider wide _ (position-fits wide (b + p / 2 ^ 8 % 2 ^ 4 * 2 ^ 28));
+        lower = fits-wider short _ (position-fits short (a + p / 2 ^ 4 % 2 ^ 4 * 2 ^ 28));
+        upper = fits-wider short _ (position-fits short (b + p / 2 ^ 8 % 2 ^ 4 * 2 ^ 28));
         maximum = i₃ .0;
         positive1 = set1 .0;
         negative1 = set1 .1;
@@ -97,7 +97,7 @@ module _ (y m f l o n d a b t g h c r p : ℕ) where
       })
 
 -- data as it is sent: fifteen values, each below 2 ^ 28 and in its field, and what the layout does not send 0
-pub record Sheet (d : List ℕ) : Type 0 where
+pub record Sent (d : List ℕ) : Type 0 where
   pub long : length d ≡ 15
   pub below : Below d
   pub fields : InFields 0 d
@@ -108,7 +108,7 @@ pub record Carries (layout : ℕ) (s : Settings) (d : List ℕ) : Type 0 where
   pub held : layoutHolds layout s ≡ true
   pub values : valuesOf layout s ≡ d
 
-pub carries : (d : List ℕ) → Sheet d → Carries (layoutOf d) (settingsOf d) d
+pub carries : (d : List ℕ) → Sent d → Carries (layoutOf d) (settingsOf d) d
 unfolding spell
 carries d s =
     let e = spelled 15 d (s .long) in

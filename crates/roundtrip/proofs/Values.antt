@@ -15,7 +15,7 @@ use Rattle.settings.specs.Ranges.{inRange}
 use Rattle.settings.proofs.Within.{within, positions}
 use Rattle.layouts.specs.Layout.{isLayout, width, size, layoutHolds}
 use Rattle.words.specs.Encode.{topOf, topsOf, valuesOf, total, checksumOf, sent}
-use Rattle.words.specs.Decode.{positionOf, settingsOf}
+use Rattle.words.specs.Decode.{positionFrom, settingsOf}
 use Rattle.words.proofs.Bits.{top-below, small, position-read, tops-offset, tops-lower, tops-upper, set-low, set-high}
 use Rattle.words.proofs.Widths.{Below, values-below, tops-small}
 use Rattle.kinds.specs.Fields.{fieldOk}
@@ -77,7 +77,7 @@ module _ (l : ℕ) (s : Settings) where
       )
 
   pub values-read : inRange s ≡ true → layoutHolds l s ≡ true → settingsOf (valuesOf l s) ≡ s
-  unfolding valuesOf settingsOf positionOf
+  unfolding valuesOf settingsOf positionFrom
   values-read ok e =
       let w = within s ok in
       let h = positions (width l) s e in

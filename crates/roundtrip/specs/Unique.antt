@@ -20,7 +20,7 @@ abbrev pub ReadsBack : Type 0
 ReadsBack = (layout : ℕ) (s : Settings) → sendable layout s ≡ true → (p : Pending) → ReadInto p (wordsOf layout s) s
 
 -- words with a start word among them that are read into settings, whatever was pending: from the latest start word on they are those settings' words,
--- and no others, in the layout that it tells (a start word is its own data)
+-- and no others, in the layout that this start word tells (it is its own data)
 abbrev pub OneList : Type 0
 OneList =
     (p : Pending) (ws : List ℕ) (s : Settings) → ReadInto p ws s → (latest ws ≡ [] → ⊥)

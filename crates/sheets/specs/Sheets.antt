@@ -1,5 +1,5 @@
--- docs/LINES.md: "sheet LENGTH METHOD FAST SLOW OFFSET NUM DEN LOWER UPPER MAX P1 N1 P2 N2 OPTION RATED", and "layout LAYOUT LENGTH .. RATED";
--- "OFFSET, LOWER and UPPER are I32"
+-- docs/LINES.md: "sheet LENGTH METHOD FAST SLOW OFFSET NUM DEN LOWER UPPER MAX P1 N1 P2 N2 OPTION RATED", and `layout`, with LAYOUT before
+-- LENGTH; "OFFSET, LOWER and UPPER are I32"
 -- Assumes nothing.
 use Prim.Native.Nat.{ℕ, _^_}
 use mathlib.Core.List.{List}

@@ -26,8 +26,8 @@ upperTop d = at d 14 / 2 ^ 8 % 2 ^ 4
 
 -- two's complement over the bits that the layout has: the low 28, and in layout 2 the top four. % 2 ^ width is a guard: on what words carry
 -- it changes nothing
-unfoldable pub positionOf : ℕ → ℕ → ℕ → ℤ
-positionOf layout low top = signed (width layout) ((low + top * 2 ^ 28) % 2 ^ width layout)
+unfoldable pub positionFrom : ℕ → ℕ → ℕ → ℤ
+positionFrom layout low top = signed (width layout) ((low + top * 2 ^ 28) % 2 ^ width layout)
 
 -- with offset and stops given, all else from the data
 abbrev pub settingsFrom : ℤ → ℤ → ℤ → List ℕ → Settings
@@ -53,7 +53,7 @@ settingsFrom offset lower upper d =
 unfoldable pub settingsOf : List ℕ → Settings
 settingsOf d =
     settingsFrom
-    (positionOf (layoutOf d) (at d 4) (offsetTop d))
-    (positionOf (layoutOf d) (at d 7) (lowerTop d))
-    (positionOf (layoutOf d) (at d 8) (upperTop d))
+    (positionFrom (layoutOf d) (at d 4) (offsetTop d))
+    (positionFrom (layoutOf d) (at d 7) (lowerTop d))
+    (positionFrom (layoutOf d) (at d 8) (upperTop d))
     d

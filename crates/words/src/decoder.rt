@@ -4,7 +4,7 @@ ghost use mathlib.Core.Path.{_≡_};
 ghost use Prim.Native.Nat.{_%_, _^_};
 ghost use mathlib.Core.List.{[], _∷_, _++_};
 ghost use Rattle.counts.specs.Wrap.{signed};
-ghost use Rattle.words.specs.Decode.{positionOf, settingsFrom, settingsOf};
+ghost use Rattle.words.specs.Decode.{positionFrom, settingsFrom, settingsOf};
 
 // The low 28 bits, read as signed. Of the two shifts, the one down keeps the sign.
 fn short_position(low: u32) -> i32
@@ -15,7 +15,7 @@ fn short_position(low: u32) -> i32
 
 // A position from the low 28 bits and the top ones, which layout 1 does not have.
 fn position(layout: u32, low: u32, top: u32) -> i32
-    ensures { λ r. ⌜ r ≡ positionOf layout low top ⌝ }
+    ensures { λ r. ⌜ r ≡ positionFrom layout low top ⌝ }
 {
     if layout == 1 {
         short_position(low)

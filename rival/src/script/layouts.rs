@@ -237,8 +237,9 @@ impl<W: Write> Script<W> {
     /// Homed on rails of every length, and moved along them; some are refused, and the one before stays in force.
     pub(super) fn long_rails(&mut self) {
         for settings in RAILS.map(rail) {
-            self.follow_under(&settings, &[4 - (1 << 32), (1 << 32) - 4]); // a quarter of either is exact
-                                                                           // Beyond a stop, but with the same low 28 bits.
+            // A quarter of either is exact.
+            self.follow_under(&settings, &[4 - (1 << 32), (1 << 32) - 4]);
+            // Beyond a stop, but with the same low 28 bits.
             let beyond = [settings.lower_stop - (1 << 28), settings.upper_stop + (1 << 28)];
             for target in beyond.into_iter().filter(|&target| i32::try_from(target).is_ok()) {
                 self.tick_with(0x000F, &format!("position {target} 0"), true);

@@ -1,4 +1,4 @@
--- `axis::finish` meets its contract.
+-- `axis::finish` meets its contract: the words are emptied first, which leaves the values, and then the settings come into force or not.
 -- Assumes nothing.
 use mathlib.Core.Path.{_∙_}
 use Rattle.axis.proofs.Taking.{Closed, rebuilt, refused-end, complete-end}

@@ -1,4 +1,4 @@
--- `axis::word` meets its contract.
+-- `axis::word` meets its contract: by its kind, and what is due, a word goes the way of the reader's rule.
 -- Assumes nothing.
 use mathlib.Core.Path.{_≡_, refl, sym, ap₂, _∙_}
 use mathlib.Core.Bool.{true, false}

@@ -1,4 +1,4 @@
--- `cells::settings_in` meets its contract.
+-- `cells::settings_in` meets its contract: three words read as signed, the rest as they are.
 -- Assumes nothing.
 use Rattle.patterns.proofs.Numbers.{read32}
 use borrow.Author.Needs.{needs}

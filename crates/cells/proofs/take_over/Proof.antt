@@ -1,4 +1,4 @@
--- `cells::take_over` meets its contract.
+-- `cells::take_over` meets its contract: the values are copied, and the three positions stored over theirs.
 -- Assumes nothing.
 use mathlib.Core.Path.{ap, _∙_}
 use mir.Facts.{toZ-ofZ}

@@ -1,4 +1,4 @@
--- `cells::tops` meets its contract.
+-- `cells::tops` meets its contract: beyond the count a value is 0.
 -- Assumes nothing.
 use borrow.Author.Tests.{lt-ltb, le-ltb}
 use borrow.Author.Needs.{needs}

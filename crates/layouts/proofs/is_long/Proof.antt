@@ -1,4 +1,4 @@
--- `layouts::is_long` meets its contract.
+-- `layouts::is_long` meets its contract: its tests are those of the three positions.
 -- Assumes nothing.
 use mir.Facts.{toZ-ofZ}
 use mir.Syntax.{w32}

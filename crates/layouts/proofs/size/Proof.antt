@@ -1,4 +1,4 @@
--- `layouts::size` meets its contract.
+-- `layouts::size` meets its contract: by whether the layout is 1.
 -- Assumes nothing.
 use borrow.Author.Tests.{eq-eqb, ne-eqb}
 use Rattle.layouts.proofs.size.Statement.{statement}

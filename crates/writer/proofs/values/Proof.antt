@@ -1,4 +1,4 @@
--- `writer::values` meets its contract.
+-- `writer::values` meets its contract: every field in range fits its word.
 -- Assumes nothing.
 use mir.Facts.{toZ-ofZ}
 use Rattle.counts.proofs.Fits.{fits-i32}

@@ -8,7 +8,7 @@ use lib.ListN.{length}
 use mir.Facts.{toZ-ofZ}
 use mir.Syntax.{w32}
 use mir.Val.{SFits}
-use Rattle.words.specs.Decode.{at, positionOf, settingsFrom, settingsOf}
+use Rattle.words.specs.Decode.{at, positionFrom, settingsFrom, settingsOf}
 use Rattle.words.proofs.Spelled.{spelled, spell}
 use borrow.Author.Needs.{needs}
 use Rattle.words.proofs.decoder.decode.Statement.{statement}
@@ -40,9 +40,9 @@ decode-with-requires c κs = search needs
 
 -- the three positions decide the rest
 built : (v : List ℕ) (tops : ℕ) → length v ≡ 14 → {o l u : ℤ}
-    → o ≡ positionOf (at v 0) (at v 4) (tops % 2 ^ 4)
-    → l ≡ positionOf (at v 0) (at v 7) (tops / 2 ^ 4 % 2 ^ 4)
-    → u ≡ positionOf (at v 0) (at v 8) (tops / 2 ^ 8 % 2 ^ 4)
+    → o ≡ positionFrom (at v 0) (at v 4) (tops % 2 ^ 4)
+    → l ≡ positionFrom (at v 0) (at v 7) (tops / 2 ^ 4 % 2 ^ 4)
+    → u ≡ positionFrom (at v 0) (at v 8) (tops / 2 ^ 8 % 2 ^ 4)
     → settingsFrom o l u v ≡ settingsOf (v ++ tops ∷ [])
 unfolding settingsOf spell
 built v tops n p q r = rw (p, q, r, spelled 14 v n)

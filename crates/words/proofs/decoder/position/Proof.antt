@@ -8,7 +8,7 @@ use mir.Facts.{toZ-ofZ}
 use mir.Syntax.{w64}
 use mir.ValLaws.{toZ-pos}
 use Rattle.counts.specs.Wrap.{signed, modulo, wrapped}
-use Rattle.words.specs.Decode.{positionOf}
+use Rattle.words.specs.Decode.{positionFrom}
 use borrow.Author.Needs.{needs}
 use Rattle.words.proofs.decoder.position.Statement.{statement}
 use Rattle.words.proofs.decoder.position.Tie as tie
@@ -29,7 +29,7 @@ wrap-requires : tie.Need-wrap-requires
 wrap-requires c κs = search needs
 
 returns : tie.Need-returns
-unfolding positionOf
+unfolding positionFrom
 returns c =
     let x = c .before .before .args .low in
     let t = c .before .before .args .top in
@@ -37,7 +37,7 @@ returns c =
     rw (eq-eqb _ 1 (c .before .if1 .taken)) (toZ-ofZ {z = c .short-position .result} (search needs) ∙ c .short-position .ensures ∙ ap (signed 28) e)
 
 returns-2 : tie.Need-returns-2
-unfolding positionOf wrapped modulo
+unfolding positionFrom wrapped modulo
 returns-2 c =
     let x = c .before .before .args .low in
     let t = c .before .before .args .top in
