@@ -1,7 +1,7 @@
 -- What the lent words mean. Every content of them means some axis.
 --   0 to 7    motion: state, mode, alarm number, homing phase, home, control word, switches, position
---   8 to 21   the settings in force, as the data of their settings words, but offset and limits (12, 15, 16) in 32 bits; word 8 is 0 where none
---             are in force, else 1
+--   8 to 21   the settings in force, as the data of their settings words, but offset and limits (12, 15, 16) in 32 bits; word 8 is 0 exactly where
+--             none are in force
 --   22        how many settings words are pending
 --   23 to 37  their data; word 23 + k is of no meaning where k is not below that count
 -- Assumes nothing.

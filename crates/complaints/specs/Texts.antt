@@ -21,7 +21,7 @@ expectedRow Standstill = 7
 expectedRow Set = 8
 expectedRow End = 9
 
--- a first word that no line has: the lines of the base are named, and no later one, so that the answers to old scripts never change
+-- a first word that no line has: the lines of the base are named, and no later one, since the text of its answers never changes
 abbrev pub expectedText : Expected → List ℕ
 expectedText Keyword = ascii " expected word, tick, sheet or fresh\n"
 expectedText Digits = ascii " expected hexadecimal digits\n"

@@ -22,7 +22,7 @@ fn expected_row(expected: Expected) -> usize
     }
 }
 
-// The first phrase names the lines of the base alone: later lines leave the answers to older ones as they are.
+// The first phrase names the lines of the base alone: the text of its answers never changes.
 fn expected(out: &mut [u8], at: usize, expected: Expected) -> usize
     ensures { λ r. ⌜ Printed (now (out .entry)) at (expectedText expected) (now (out .exit)) r ⌝ }
 {
