@@ -23,42 +23,44 @@
 extern "C" {
 #endif
 
-#define AXIS_WORDS  38 /* words of an axis */
+#define AXIS_WORDS  39 /* words of an axis */
 #define AXIS_EVENT   7 /* words of a tick's inputs */
 #define AXIS_FLOATS  7 /* floats of a tick's inputs */
 #define AXIS_ANSWER  7 /* words of a tick's answer */
-#define AXIS_FIELDS 15 /* fields of settings, one a word */
-#define AXIS_SETTINGS_WORDS 16 /* words that carry settings to an axis, at most: layout 1 has 15, layout 2 has 16 */
+#define AXIS_FIELDS 16 /* fields of settings, one a word */
+#define AXIS_SETTINGS_WORDS 16 /* words that carry settings to an axis, at most: layout 1 has 15, layouts 2 and 3 have 16 */
 
 /* Makes the axis fresh, whatever the words held: no settings, drive state Not ready to switch on, homing idle. */
 void axis_fresh(uint32_t axis[AXIS_WORDS]);
 
 /* Takes one settings word: a kind in the top 4 bits, data in the low 28. Kinds come in rising order from the start word (0), whose data is the layout,
- * to the end word (15), whose data is the sum of all data before it, modulo 2^28; only layout 2 has kind 14. A start word begins afresh at any time, in
- * either layout. Returns AXIS_ACCEPTED, or the refusal (1 to 7; an end word is tested 1, 4, 5, 6, 7, another 1, then 2 or 3). A refused word empties the
- * unfinished settings, so that they begin again with their first word. An end word that is accepted brings all fields into force together, and the axis
- * is neither homed nor in homing error any more and homing is idle; until then the settings in force stay. */
+ * to the end word (15), whose data is the sum of all data before it, modulo 2^28. Layout 1 has no kind 14; the word of kind 12 has the quick stop option
+ * code, and in layout 3 the homing torque beside it. A start word begins afresh at any time, in any layout. Returns AXIS_ACCEPTED, or the refusal (1 to 7;
+ * an end word is tested 1, 4, 5, 6, 7, another 1, then 2 or 3). A refused word empties the unfinished settings, so that they begin again with their
+ * first word. An end word that is accepted brings all fields into force together, and the axis is neither homed nor in homing error any more and homing
+ * is idle; until then the settings in force stay. */
 uint32_t axis_word(uint32_t axis[AXIS_WORDS], uint32_t word);
 
 /* One tick: takes its inputs and writes every word of its answer. Returns the answer's first word: AXIS_ACCEPTED, or AXIS_NO_SETTINGS, where the
  * other six are 0 and the axis stays as it was. The floats are looked at by a hybrid command alone, but seven are lent in each call. */
 uint32_t axis_tick(uint32_t axis[AXIS_WORDS], const uint32_t event[AXIS_EVENT], const float floats[AXIS_FLOATS], uint32_t answer[AXIS_ANSWER]);
 
-/* The layouts of the words that carry settings. What both hold means the same in either; ask for AXIS_LAYOUT_1 where an older axis is to read it too. */
+/* The layouts of the words that carry settings. What several hold means the same in each; ask for the lowest where an older axis is to read it too. */
 enum {
-    AXIS_LAYOUT_1 = 1, /* 15 words; home offset and software position limits from -2^27 to 2^27 - 1 */
-    AXIS_LAYOUT_2 = 2  /* 16 words; holds all settings */
+    AXIS_LAYOUT_1 = 1, /* 15 words; home offset and software position limits from -2^27 to 2^27 - 1, homing torque equal to the maximum torque */
+    AXIS_LAYOUT_2 = 2, /* 16 words; homing torque equal to the maximum torque, which is how layouts 1 and 2 are read */
+    AXIS_LAYOUT_3 = 3  /* 16 words; holds all settings */
 };
 
 /* Writes settings as the words of a layout, 15 or 16 of them, to the front of a buffer of `length` words, and leaves the rest of it alone. Returns AXIS_ACCEPTED, or the
- * refusal, tested in the order 2, 9, 10, 3, 5, 6, and then leaves all of it alone. The length has 64 bits on a 32-bit machine too. */
+ * refusal, tested in the order 2, 9, 10, 11, 3, 5, 6, and then leaves all of it alone. The length has 64 bits on a 32-bit machine too. */
 uint32_t axis_write(uint32_t layout, const uint32_t fields[AXIS_FIELDS], uint32_t *buffer, uint64_t length);
 
 /* Why a word, a tick or a buffer is refused, each in its case and in no other. */
 enum {
     AXIS_ACCEPTED = 0,
     AXIS_OUT_OF_SEQUENCE = 1,   /* a word whose kind is neither the next one due nor 0 */
-    AXIS_UNKNOWN_LAYOUT = 2,    /* a start word's data, or the layout asked of the writer, is neither 1 nor 2 */
+    AXIS_UNKNOWN_LAYOUT = 2,    /* a start word's data, or the layout asked of the writer, is none of 1, 2 and 3 */
     AXIS_OUT_OF_RANGE = 3,      /* a word's data, or a field, outside its range */
     AXIS_CHECKSUM_MISMATCH = 4, /* an end word whose data is not the sum */
     AXIS_LIMITS_CROSSED = 5,    /* the lower software position limit is not below the upper */
@@ -66,7 +68,8 @@ enum {
     AXIS_DRIVE_ACTIVE = 7,      /* an end word in Operation enabled or Quick stop active */
     AXIS_NO_SETTINGS = 8,       /* a tick before any settings are in force */
     AXIS_BUFFER_TOO_SHORT = 9,  /* fewer words than the layout has */
-    AXIS_LONG_VALUE = 10        /* layout 1 is asked of the writer, and the home offset or a software position limit needs more than 28 bits */
+    AXIS_LONG_VALUE = 10,       /* layout 1 is asked of the writer, and the home offset or a software position limit needs more than 28 bits */
+    AXIS_HOMING_TORQUE_LOST = 11 /* layout 1 or 2 is asked of the writer, and the homing torque differs from the maximum torque */
 };
 
 /* The words of an event. Seven zeros are rest with the voltage disabled, at position 0. */
@@ -111,7 +114,8 @@ enum {
 /* The words of an answer. */
 enum {
     AXIS_ANSWER_NUMBER = 0,     /* AXIS_ACCEPTED or AXIS_NO_SETTINGS */
-    AXIS_ANSWER_TORQUE = 1,     /* commanded torque, thousandths of the rated torque (signed) */
+    AXIS_ANSWER_TORQUE = 1,     /* commanded torque, thousandths of the rated torque (signed): at most, either way, the least of the maximum torque, the
+                                   chosen set's limit and, in mode 6, the homing torque */
     AXIS_ANSWER_SPEED = 2,      /* commanded speed (signed) */
     AXIS_ANSWER_POSITION = 3,   /* commanded position, counts (signed) */
     AXIS_ANSWER_STATUSWORD = 4, /* statusword. Bits 0 to 9 by drive state: 0000 not ready, 0250 switch on disabled, 0231 ready, 0233 switched on,
@@ -138,7 +142,8 @@ enum {
     AXIS_FIELD_POSITIVE_TORQUE_LIMIT_2 = 11,
     AXIS_FIELD_NEGATIVE_TORQUE_LIMIT_2 = 12,
     AXIS_FIELD_QUICK_STOP_OPTION_CODE = 13, /* 2 or 6 */
-    AXIS_FIELD_RATED_TORQUE = 14            /* 1 to 2^24 millinewton metres */
+    AXIS_FIELD_RATED_TORQUE = 14,           /* 1 to 2^24 millinewton metres */
+    AXIS_FIELD_HOMING_TORQUE = 15           /* a torque as those above: beside them the cap in mode 6; layouts 1 and 2 hold the maximum torque's value alone */
 };
 
 #ifdef __cplusplus

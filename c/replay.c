@@ -5,8 +5,8 @@
  *     fresh                             a fresh axis, as at the beginning
  *     word WORD                         one settings word
  *     tick 7 WORDS 7 FLOATS             one tick; a float is its 32-bit pattern
- *     layout LAYOUT LENGTH 15 FIELDS    the writer, asked for this layout, on a buffer of LENGTH words that each hold DEADBEEF
- *     sheet LENGTH 15 FIELDS            the same, asked for layout 1
+ *     layout LAYOUT LENGTH 16 FIELDS    the writer, asked for this layout, on a buffer of LENGTH words that each hold DEADBEEF
+ *     sheet LENGTH 16 FIELDS            the same, asked for layout 1
  *
  * Each is answered by a line as docs/LINES.md has it, without the name of a refusal. */
 #include <inttypes.h>

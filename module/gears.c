@@ -9,7 +9,7 @@
 #include "axis.h"
 
 #ifdef AXIS
-/* The proved ones, as the compiler has them: settings are their fifteen fields, an answer is its case and its number. */
+/* The proved ones, as the compiler has them: settings are their sixteen fields, an answer is its case and its number. */
 struct narrow {
     uint8_t counts;
     int32_t count;

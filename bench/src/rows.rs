@@ -1,7 +1,7 @@
 //! The rows of the table: what is fed before, and what is counted.
 
 use crate::baseline::{Command, Gains, Tick, HOM};
-use crate::words::{event, Event};
+use crate::words::{event, Event, AXIS_FIELDS};
 
 /// 01's sheet S.
 pub const SHEET: [u32; 15] = [
@@ -10,7 +10,7 @@ pub const SHEET: [u32; 15] = [
 ];
 
 /// Its fields, in the order of the settings struct.
-pub const FIELDS: [u32; 15] = [23, 20000, 1000, 0, 3, 2, -1000i32 as u32, 1000, 1000, 800, 600, 300, 300, 2, 2000];
+pub const FIELDS: [u32; AXIS_FIELDS] = [23, 20000, 1000, 0, 3, 2, -1000i32 as u32, 1000, 1000, 800, 600, 300, 300, 2, 2000, 1000];
 
 /// S for a touring rail, whose differences take 33 bits, in layout 2.
 pub const TOURING_SHEET: [u32; 16] = [
@@ -19,29 +19,46 @@ pub const TOURING_SHEET: [u32; 16] = [
 ];
 
 /// Its fields.
-pub const TOURING_FIELDS: [u32; 15] = [
-    23, 20000, 1000, -1_900_000_000i32 as u32, 1, 4, -2_000_000_000i32 as u32, 2_000_000_000, 1000, 800, 600, 300, 300, 2, 2000,
+pub const TOURING_FIELDS: [u32; AXIS_FIELDS] = [
+    23, 20000, 1000, -1_900_000_000i32 as u32, 1, 4, -2_000_000_000i32 as u32, 2_000_000_000, 1000, 800, 600, 300, 300, 2, 2000, 1000,
 ];
 
-/// S with other data in the words of these kinds, and the sum to match.
-fn sheet_with(changes: &[(usize, u32)]) -> [u32; 15] {
+/// A homing torque below what the homing ticks ask for.
+const HOMING_TORQUE: u32 = 60;
+
+/// The touring rail's sheet with that homing torque, in layout 3.
+pub fn homing_sheet() -> [u32; 16] {
+    sheet_with(TOURING_SHEET, &[(0, 3), (12, HOMING_TORQUE << 8 | 2)])
+}
+
+/// Its fields.
+pub fn homing_fields() -> [u32; AXIS_FIELDS] {
+    let mut fields = TOURING_FIELDS;
+    fields[15] = HOMING_TORQUE;
+    fields
+}
+
+/// A sheet with other data in the words of these kinds, and the sum to match.
+fn sheet_with<const WORDS: usize>(mut sheet: [u32; WORDS], changes: &[(usize, u32)]) -> [u32; WORDS] {
     const DATA: u32 = 0x0FFF_FFFF;
-    let mut sheet = SHEET;
     for &(kind, data) in changes {
         sheet[kind] = (kind as u32) << 28 | data & DATA;
     }
-    let sum: u32 = sheet[..14].iter().map(|word| word & DATA).sum();
-    sheet[14] = 15 << 28 | sum & DATA;
+    let sum: u32 = sheet[..WORDS - 1].iter().map(|word| word & DATA).sum();
+    sheet[WORDS - 1] = 15 << 28 | sum & DATA;
     sheet
 }
 
-pub const NAMES: [&str; 20] = [
+pub const NAMES: [&str; 24] = [
     "settings word: start",
     "settings word: one between, mean of 13",
     "settings word: end, takes over",
     "settings word: start of layout 2",
     "settings word: kind 14 of layout 2",
     "settings word: end of layout 2, takes over",
+    "settings word: kind 12 of layout 3",
+    "settings word: end of layout 3, takes over",
+    "settings word: whole sheet of layout 3, mean of 16",
     "settings word: refused (1)",
     "tick refused (8)",
     "tick: rest",
@@ -53,6 +70,7 @@ pub const NAMES: [&str; 20] = [
     "tick: homing, not started",
     "tick: homing start",
     "tick: homing leg running",
+    "tick: homing leg running, homing torque holds",
     "tick: homing leg ends, next begins",
     "tick: homing leg ends, homed",
     "tick: into Fault reaction",
@@ -101,13 +119,15 @@ const RAIL: i32 = 134_000;
 /// S for that rail. The offset keeps every target away from where the difference is 0.
 fn long_rail() -> [u32; 15] {
     let (lower, upper) = (-1000 * RAIL, 1000 * RAIL);
-    sheet_with(&[(4, 1_000_000), (5, 10_000), (6, 9_999), (7, lower as u32), (8, upper as u32)])
+    sheet_with(SHEET, &[(4, 1_000_000), (5, 10_000), (6, 9_999), (7, lower as u32), (8, upper as u32)])
 }
 
 pub fn rows() -> [Row; NAMES.len()] {
     let enabling = ticks([SHUTDOWN, SHUTDOWN, ENABLE, ENABLE].map(|control| Tick { control, ..STILL }));
     let enabled = then(&words(&SHEET), &enabling);
     let homed = then(&enabled, &route(5));
+    let homing_sheet = words(&homing_sheet());
+    let capped = then(&homing_sheet, &enabling);
     let homed_on_rail = then(&then(&words(&long_rail()), &enabling), &route(5));
     let many = |f: &dyn Fn(i32) -> Tick| ticks((0..100).map(f));
     let row = |before: &[Event], counted: Vec<Event>| Row { before: before.to_vec(), counted };
@@ -121,6 +141,9 @@ pub fn rows() -> [Row; NAMES.len()] {
         row(&none, words(&[TOURING_SHEET[0]; 100])),
         row(&words(&TOURING_SHEET[..14]), words(&TOURING_SHEET[14..15])),
         row(&words(&TOURING_SHEET[..15]), words(&TOURING_SHEET[15..])),
+        row(&homing_sheet[..12], homing_sheet[12..13].to_vec()),
+        row(&homing_sheet[..15], homing_sheet[15..].to_vec()),
+        row(&none, homing_sheet.clone()),
         row(&none, words(&[SHEET[5]; 100])),
         row(&none, many(&|_| STILL)),
         row(&homed, many(&|i| Tick { position: 103 + i, ..STILL })),
@@ -132,6 +155,7 @@ pub fn rows() -> [Row; NAMES.len()] {
         row(&homed, many(&|_| Tick { command: Command::Homing(100), ..STILL })),
         row(&enabled, route(1)),
         row(&then(&enabled, &route(1)), many(&|i| homing(101 + i, 0))),
+        row(&then(&capped, &route(1)), many(&|i| homing(101 + i, 0))),
         row(&then(&enabled, &route(1)), ticks([homing(110, HOM)])),
         row(&then(&enabled, &route(4)), ticks([homing(103, 0)])),
         row(&homed, ticks([Tick { alarm: 1 << 20, ..STILL }])),
@@ -172,7 +196,7 @@ fn storm_command(seed: &mut u32) -> Command {
 
 /// Hybrid ticks under S with another rated torque: one of the storm, then five tame ones, which end a fault and enable again.
 pub fn storm(rated: u32) -> Row {
-    let sheet = sheet_with(&[(13, rated)]);
+    let sheet = sheet_with(SHEET, &[(13, rated)]);
     let tame = Command::Hybrid(Gains { kp: 2.0, kd: 0.1, pd: 0.5, vd: 0.0, t: 0.1, p: 0.3, v: 0.2 });
     let enabling = [0x00, 0x80, SHUTDOWN, ENABLE, ENABLE].map(|control| Tick { control, command: tame, ..STILL });
     let mut seed = 402;

@@ -6,7 +6,10 @@ use crate::baseline::{self, Answer, Axis, Command, Gains, Gear, Limits, Settings
 pub const WIDTH: usize = 7;
 
 /// Words of a proved axis.
-pub const AXIS_WORDS: usize = 38;
+pub const AXIS_WORDS: usize = 39;
+
+/// Fields of settings.
+pub const AXIS_FIELDS: usize = 16;
 
 /// What an axis is fed with.
 #[derive(Clone)]
@@ -99,22 +102,26 @@ pub unsafe extern "C" fn baseline_write(layout: u32, settings: &Settings, buffer
     baseline::write_sheet(layout, settings, std::slice::from_raw_parts_mut(buffer, length)) as u32
 }
 
-/// The gear among the fifteen fields.
-fn gear(f: &[u32; 15]) -> Gear {
+/// The gear among the fields.
+fn gear(f: &[u32; AXIS_FIELDS]) -> Gear {
     Gear { offset: f[3] as i32, numerator: f[4], denominator: f[5], lower: f[6] as i32, upper: f[7] as i32 }
 }
 
-/// Fifteen fields as the baseline's settings. One beyond its width becomes the greatest of that width, which is out of range as well.
-pub fn settings(f: &[u32; 15]) -> Settings {
+/// Fields as the baseline's settings. One beyond its width becomes the greatest of that width, which is out of range as well, or the one below
+/// it, so that a homing torque that differs from the maximum still does.
+pub fn settings(f: &[u32; AXIS_FIELDS]) -> Settings {
     let byte = |field: u32| field.min(u8::MAX.into()) as u8;
     let half = |field: u32| field.min(u16::MAX.into()) as u16;
     let limits = |positive, negative| Limits { positive: half(positive), negative: half(negative) };
+    let (maximum, homing) = (half(f[8]), half(f[15]));
+    let cut_alike = homing == maximum && f[15] != f[8];
     Settings {
         fast: f[1],
         slow: f[2],
         gear: gear(f),
         rated: f[14],
-        maximum: half(f[8]),
+        maximum,
+        homing: homing - cut_alike as u16,
         limits: [limits(f[9], f[10]), limits(f[11], f[12])],
         method: byte(f[0]),
         option: byte(f[13]),
@@ -126,14 +133,14 @@ pub fn settings(f: &[u32; 15]) -> Settings {
 /// # Safety
 /// That of `baseline_write`.
 #[no_mangle]
-pub unsafe extern "C" fn baseline_sheet(layout: u32, fields: &[u32; 15], buffer: *mut u32, length: usize) -> u32 {
+pub unsafe extern "C" fn baseline_sheet(layout: u32, fields: &[u32; AXIS_FIELDS], buffer: *mut u32, length: usize) -> u32 {
     baseline_write(layout, &settings(fields), buffer, length)
 }
 
 /// The narrow gear alone, without home: 1, or 0 where it is too wide and the count is left alone.
 #[no_mangle]
 #[inline(never)]
-pub extern "C" fn baseline_narrow_gear(fields: &[u32; 15], target: i32, count: &mut i32) -> u32 {
+pub extern "C" fn baseline_narrow_gear(fields: &[u32; AXIS_FIELDS], target: i32, count: &mut i32) -> u32 {
     let gear = gear(fields);
     match gear.narrow(gear.clamp(target)) {
         Some(geared) => {
@@ -147,7 +154,7 @@ pub extern "C" fn baseline_narrow_gear(fields: &[u32; 15], target: i32, count: &
 /// The wide gear alone, without home.
 #[no_mangle]
 #[inline(never)]
-pub extern "C" fn baseline_wide_gear(fields: &[u32; 15], target: i32) -> i32 {
+pub extern "C" fn baseline_wide_gear(fields: &[u32; AXIS_FIELDS], target: i32) -> i32 {
     let gear = gear(fields);
     gear.wide(gear.clamp(target)) as i32
 }

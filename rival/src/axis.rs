@@ -93,7 +93,11 @@ impl Axis {
         let limit_switch = tick.switches.pot || tick.switches.not;
         Answer {
             refusal: None,
-            torque: if matched && self.state.is_live() { torque(&tick.command, &sheet, tick.limit_set) } else { 0 },
+            torque: if matched && self.state.is_live() {
+                torque(&tick.command, &sheet, self.shown_mode, tick.limit_set)
+            } else {
+                0
+            },
             speed: match homing {
                 Homing::Runs { leg, .. } if !tick.control.has(HALT) => leg.signed_speed(&sheet),
                 _ => 0,

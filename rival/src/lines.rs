@@ -84,6 +84,7 @@ pub enum Unreadable {
 }
 
 /// The words of a line before its comment, taken one by one.
+#[derive(Clone)]
 struct Words<'a> {
     text: &'a [u8],
     at: usize,
@@ -113,6 +114,11 @@ impl<'a> Words<'a> {
     fn take<T>(&mut self, what: &'static str, accept: impl Fn(&[u8]) -> Option<T>) -> Result<T, Unreadable> {
         let (column, word) = self.next();
         word.and_then(accept).ok_or(Unreadable::Expected { column, what })
+    }
+
+    /// Whether no word is left.
+    fn are_over(&self) -> bool {
+        self.clone().next().1.is_none()
     }
 
     fn end(&mut self) -> Result<(), Unreadable> {
@@ -173,7 +179,12 @@ pub fn read(text: &Text) -> Result<Line, Unreadable> {
         Keyword::Tick => Line::Tick(tick(&mut words)?),
         Keyword::Sheet => Line::Sheet { length: length(&mut words)?, settings: Box::new(settings(&mut words)?) },
         Keyword::Layout => {
-            Line::Layout { layout: words.u32()?, length: length(&mut words)?, settings: Box::new(settings(&mut words)?) }
+            let (layout, length) = (words.u32()?, length(&mut words)?);
+            let mut settings = Box::new(settings(&mut words)?);
+            if !words.are_over() {
+                settings.homing_torque = words.u32()?.into();
+            }
+            Line::Layout { layout, length, settings }
         }
         Keyword::Fresh => Line::Fresh,
     };
@@ -259,8 +270,9 @@ fn length(words: &mut Words) -> Result<usize, Unreadable> {
     })
 }
 
+/// The fifteen fields that every such line has; homing torque is the maximum where none is given.
 fn settings(words: &mut Words) -> Result<Settings, Unreadable> {
-    Ok(Settings {
+    let read = Settings {
         method: words.u32()?.into(),
         fast: words.u32()?.into(),
         slow: words.u32()?.into(),
@@ -276,5 +288,7 @@ fn settings(words: &mut Words) -> Result<Settings, Unreadable> {
         negative_2: words.u32()?.into(),
         quick_stop_option: words.u32()?.into(),
         rated_torque: words.u32()?.into(),
-    })
+        ..Settings::default()
+    };
+    Ok(Settings { homing_torque: read.maximum_torque, ..read })
 }

@@ -1,4 +1,4 @@
-//! The ten refusals and their trade words.
+//! The refusals and their trade words.
 
 #[derive(Clone, Copy, Debug, PartialEq, Eq)]
 pub enum Refusal {
@@ -12,6 +12,7 @@ pub enum Refusal {
     NoSheet = 8,
     ShortBuffer = 9,
     LongValue = 10,
+    HomingTorqueLost = 11,
 }
 
 impl Refusal {
@@ -31,6 +32,7 @@ impl Refusal {
             Refusal::NoSheet => "no sheet",
             Refusal::ShortBuffer => "short buffer",
             Refusal::LongValue => "long value",
+            Refusal::HomingTorqueLost => "homing torque lost",
         }
     }
 }

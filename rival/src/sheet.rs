@@ -7,18 +7,18 @@ use crate::refusal::Refusal;
 /// "The top 4 bits are the kind, the low 28 the data."
 pub const DATA: u32 = (1 << 28) - 1;
 
-/// "Fifteen 32-bit words"; "the writer needs 16 words for layout 2".
+/// "Fifteen 32-bit words"; "the writer needs 16 words for layout 2", and "layout 3 is layout 2".
 pub const LONGEST: usize = 16;
 
 /// The layouts that somebody defined.
-pub const LAYOUTS: [u32; 2] = [1, 2];
+pub const LAYOUTS: [u32; 3] = [1, 2, 3];
 
-/// "Kinds come once each in rising order": in layout 1 there is no kind 14, layout 2 has "a kind 14 word after kind 13".
-/// Nothing for "a layout nobody defined".
+/// "Kinds come once each in rising order": in layout 1 there is no kind 14, layout 2 has "a kind 14 word after kind 13", and
+/// so has layout 3. Nothing for "a layout nobody defined".
 pub fn kinds(layout: u32) -> Option<&'static [u32]> {
     match layout {
         1 => Some(&[0, 1, 2, 3, 4, 5, 6, 7, 8, 9, 10, 11, 12, 13, 15]),
-        2 => Some(&[0, 1, 2, 3, 4, 5, 6, 7, 8, 9, 10, 11, 12, 13, 14, 15]),
+        2 | 3 => Some(&[0, 1, 2, 3, 4, 5, 6, 7, 8, 9, 10, 11, 12, 13, 14, 15]),
         _ => None,
     }
 }
@@ -77,8 +77,8 @@ pub fn top_bits_at(kind: u32) -> u32 {
     }
 }
 
-/// Refusal 3's question for the kinds 1 to 14. Start and end words have tests of their own.
-pub fn data_is_in_range(kind: u32, data: u32) -> bool {
+/// Refusal 3's question for the kinds 1 to 14 of a layout. Start and end words have tests of their own.
+pub fn data_is_in_range(layout: u32, kind: u32, data: u32) -> bool {
     match kind {
         METHOD => matches!(data, 1 | 2 | 17 | 18 | 23..=30 | 33 | 34 | 35),
         FAST | SLOW => data >= 1,
@@ -86,7 +86,11 @@ pub fn data_is_in_range(kind: u32, data: u32) -> bool {
         NUMERATOR | DENOMINATOR => (1..=1 << 20).contains(&data),
         MAXIMUM_TORQUE => data <= TORQUE_TOP,
         LIMIT_SET_1 | LIMIT_SET_2 => positive(data) <= TORQUE_TOP && negative(data) <= TORQUE_TOP,
-        QUICK_STOP_OPTION => data == 2 || data == 6,
+        QUICK_STOP_OPTION if layout == 3 => {
+            is_option(option(data)) && homing_torque(data) <= TORQUE_TOP && data >> 20 == 0
+            // "bits 20 to 27 are zero"
+        }
+        QUICK_STOP_OPTION => is_option(data),
         RATED_TORQUE => (1..=1 << 24).contains(&data),
         TOP_BITS => data < 1 << 12, // "bits 12 to 27 are zero"
         _ => false,
@@ -101,6 +105,20 @@ fn positive(data: u32) -> u32 {
 /// "negative (as a magnitude) in the high 14"
 fn negative(data: u32) -> u32 {
     data >> 14
+}
+
+fn is_option(option: u32) -> bool {
+    option == 2 || option == 6
+}
+
+/// "bits 0 to 7 keep the option"
+fn option(data: u32) -> u32 {
+    data & 0xFF
+}
+
+/// "in the kind 12 word bits 8 to 19 hold the homing torque"
+fn homing_torque(data: u32) -> u32 {
+    data >> 8 & 0xFFF
 }
 
 /// "The end's data is the sum of the fourteen earlier data fields, modulo 2^28"; "the sum includes kind 14".
@@ -142,7 +160,7 @@ impl Sheet {
         data(self.words[kind as usize])
     }
 
-    /// Offset or stop: in layout 1 of 28 bits, in layout 2 "32-bit signed", its top four bits from kind 14.
+    /// Offset or stop: in layout 1 of 28 bits, in the others "32-bit signed", its top four bits from kind 14.
     fn place(&self, kind: u32) -> i32 {
         let low = self.carried(kind);
         match self.layout() {
@@ -202,8 +220,17 @@ impl Sheet {
         i64::from(negative(self.limits(set)))
     }
 
+    /// In the older layouts there is nothing above it.
     pub fn quick_stop_option(&self) -> u32 {
-        self.carried(QUICK_STOP_OPTION)
+        option(self.carried(QUICK_STOP_OPTION))
+    }
+
+    /// "Layouts 1 and 2 read as homing torque equal to the maximum."
+    pub fn homing_torque(&self) -> i64 {
+        match self.layout() {
+            3 => i64::from(homing_torque(self.carried(QUICK_STOP_OPTION))),
+            _ => self.maximum_torque(),
+        }
     }
 
     pub fn rated_torque(&self) -> u32 {

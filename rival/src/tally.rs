@@ -1,6 +1,7 @@
 //! What a script reaches, told line by line by the rival's own view.
 
 mod gears;
+mod homing_torque;
 mod layouts;
 mod needed;
 mod settings;
@@ -25,6 +26,7 @@ pub struct Tally {
     taken_over: bool,
     /// The layout of the run that the latest start word left halfway.
     left: Option<u32>,
+    stale: Stale,
     counts: BTreeMap<String, u64>,
 }
 
@@ -37,6 +39,15 @@ struct Stretch {
     behind: bool,
 }
 
+/// Homing torques of layout 3 that an older layout must not be read with.
+#[derive(Clone, Copy, Default)]
+struct Stale {
+    /// That of the latest sheet taken over.
+    taken_over: Option<i64>,
+    /// That of a word since then whose sheet was left halfway.
+    left: Option<i64>,
+}
+
 impl Default for Tally {
     fn default() -> Tally {
         let counts = needed::names().into_iter().map(|name| (name, 0)).collect();
@@ -47,6 +58,7 @@ impl Default for Tally {
             refused: None,
             taken_over: false,
             left: None,
+            stale: Stale::default(),
             counts,
         }
     }
@@ -75,6 +87,7 @@ impl Tally {
                 self.refused = None;
                 self.taken_over = false;
                 self.left = None;
+                self.stale = Stale::default();
             }
             Ok(Line::Word(word)) => self.saw_word(word),
             Ok(Line::Tick(tick)) => self.saw_tick(&tick),
@@ -86,6 +99,7 @@ impl Tally {
             Ok(Line::Layout { layout, length, settings }) => {
                 self.saw_writer(layout, length, &settings);
                 self.saw_layout_line(layout, length, &settings);
+                self.saw_homing_field(layout, &settings, before_comment(&text));
             }
             Ok(Line::Blank) | Err(_) => {}
         }
@@ -116,4 +130,12 @@ fn bytes(text: &Text) -> Option<&[u8]> {
         Text::Bytes(bytes) => Some(bytes),
         Text::TooLong => None,
     }
+}
+
+fn before_comment(text: &Text) -> &[u8] {
+    bytes(text).unwrap_or_default().split(|&byte| byte == b'#').next().unwrap_or_default()
+}
+
+fn words(before_comment: &[u8]) -> impl Iterator<Item = &[u8]> {
+    before_comment.split(|&byte| byte == b' ' || byte == b'\t').filter(|word| !word.is_empty())
 }

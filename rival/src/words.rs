@@ -16,10 +16,14 @@ impl Unfinished {
         &self.run
     }
 
-    /// The kind due next, by the layout that the run's start word announced; an empty run waits for a start word.
+    /// The layout that the run's start word announced; 0, which nobody defined, for an empty run.
+    fn layout(&self) -> u32 {
+        self.run.first().map_or(0, |&start| sheet::data(start))
+    }
+
+    /// The kind due next, by the layout; an empty run waits for a start word.
     pub fn due(&self) -> u32 {
-        let layout = self.run.first().map(|&start| sheet::data(start));
-        layout.and_then(sheet::kinds).map_or(sheet::START, |kinds| kinds[self.run.len()])
+        sheet::kinds(self.layout()).map_or(sheet::START, |kinds| kinds[self.run.len()])
     }
 
     /// Hears one word. An accepted end word hands out the sheet of the run; that and any refusal empty the run.
@@ -44,7 +48,7 @@ impl Unfinished {
             sheet::START if sheet::kinds(data).is_none() => Err(Refusal::StrangeLayout),
             sheet::START => Ok(None),
             sheet::END => self.close(word, state).map(Some),
-            _ if !sheet::data_is_in_range(kind, data) => Err(Refusal::OutOfRange),
+            _ if !sheet::data_is_in_range(self.layout(), kind, data) => Err(Refusal::OutOfRange),
             _ => Ok(None),
         }
     }

@@ -74,7 +74,12 @@ fn columns() {
         ("layout 4294967295 33", "19 expected a whole number"),
         ("layout 2 16 23 1 1 -2147483649", "20 expected a whole number"),
         ("layout 2 16 35 1 1 0 1 1 0 1 0 0 0 0 0 2", "41 expected a whole number"),
-        ("layout 2 16 35 1 1 0 1 1 0 1 0 0 0 0 0 2 1 0", "44 expected end of line"),
+        ("layout 3 16 35 1 1 0 1 1 0 1 0 0 0 0 0 2 1 x", "44 expected a whole number"),
+        ("layout 3 16 35 1 1 0 1 1 0 1 0 0 0 0 0 2 1 -0", "44 expected a whole number"),
+        ("layout 3 16 35 1 1 0 1 1 0 1 0 0 0 0 0 2 1 4294967296", "44 expected a whole number"),
+        ("layout 3 16 35 1 1 0 1 1 0 1 0 0 0 0 0 2 1 00000000000", "44 expected a whole number"),
+        ("layout 3 16 35 1 1 0 1 1 0 1 0 0 0 0 0 2 1 0 0", "46 expected end of line"),
+        ("sheet 15 35 1 1 0 1 1 0 1 0 0 0 0 0 2 1 0", "41 expected end of line"),
     ] {
         assert_eq!(answers(line.as_bytes()), format!("unreadable 1 {expected}\n"), "{line:?}");
     }
@@ -270,7 +275,7 @@ fn layouts_of_the_writer() {
         (format!("layout 2 15 {rail}"), format!("layout 9{}  short buffer", lent(15))),
         (format!("layout 1 15 {rail}"), format!("layout 10{}  long value", lent(15))),
         (format!("layout 1 14 {rail}"), format!("layout 9{}  short buffer", lent(14))),
-        (format!("layout 3 14 {rail}"), format!("layout 2{}  strange layout", lent(14))),
+        (format!("layout 4 14 {rail}"), format!("layout 2{}  strange layout", lent(14))),
         (format!("layout 0 0 {rail}"), "layout 2  strange layout".to_string()),
         (format!("layout 4294967295 16 {short}"), format!("layout 2{}  strange layout", lent(16))),
         (format!("sheet 15 {rail}"), format!("sheet 10{}  long value", lent(15))),
@@ -338,7 +343,7 @@ fn layouts_of_the_words() {
         let halfway = words(&short[..heard.min(14)]);
         assert!(all_accepted(&format!("{halfway}{whole}")), "{heard}");
     }
-    for strange in ["00000000", "00000003", "0FFFFFFF", "08000002"] {
+    for strange in ["00000000", "00000004", "0FFFFFFF", "08000002"] {
         assert_eq!(last_two(&format!("{}word {strange}\n{}", until(5), words(&[LONG[5]]))), "word 2, word 1", "{strange}");
     }
 }
@@ -356,5 +361,187 @@ fn long_rail() {
         let tick = format!("tick F position {target} 0 at 9 ---- still set1 0\n");
         let expected = format!("tick 0 torque 0 speed 0 position {position} status {status:04X} mode 8 alarm 0");
         assert_eq!(answers(format!("{script}{tick}").as_bytes()).lines().last(), Some(&expected[..]), "{target}");
+    }
+}
+
+/// Settings by their torques: maximum, limits and homing torque.
+fn torques(option: i64, maximum: i64, limits: [i64; 4], homing: &str) -> String {
+    let [positive_1, negative_1, positive_2, negative_2] = limits;
+    format!("34 1 1 0 1 1 -1000 1000 {maximum} {positive_1} {negative_1} {positive_2} {negative_2} {option} 1000 {homing}")
+}
+
+/// The words that the writer makes, as lines.
+fn written(layout: u32, settings: &str) -> String {
+    let answer = answers(format!("layout {layout} 16 {settings}").as_bytes());
+    assert!(answer.starts_with("layout 0 "), "{layout} {settings}: {answer}");
+    let made = answer.split_whitespace().skip(2).filter(|&word| word != "DEADBEEF");
+    made.map(|word| format!("word {word}\n")).collect()
+}
+
+#[test]
+fn homing_torque_of_the_writer() {
+    let number = |layout: u32, maximum: i64, homing: &str| {
+        let line = format!("layout {layout} 16 {}", torques(2, maximum, [3000, 0, 0, 3000], homing));
+        let answer = answers(line.as_bytes());
+        answer.split(' ').nth(1).map(str::trim).unwrap_or_default().to_string()
+    };
+    for (maximum, homing, old, third) in [
+        (1000, "", "0", "0"),
+        (1000, "1000", "0", "0"),
+        (1000, "0000001000", "0", "0"),
+        (0, "0", "0", "0"),
+        (3000, "3000", "0", "0"),
+        (1000, "999", "11", "0"),
+        (0, "3000", "11", "0"),
+        (0, "1", "11", "0"),
+        // Out of range: alike, one of them, both.
+        (3001, "", "3", "3"),
+        (3001, "3001", "3", "3"),
+        (4294967295, "4294967295", "3", "3"),
+        (1000, "3001", "11", "3"),
+        (1000, "5096", "11", "3"),
+        (1000, "66536", "11", "3"),
+        (3001, "3000", "11", "3"),
+        (4294967295, "4294967294", "11", "3"),
+    ] {
+        for (layout, expected) in [(1, old), (2, old), (3, third)] {
+            assert_eq!(number(layout, maximum, homing), expected, "{layout} {maximum} {homing:?}");
+        }
+    }
+    assert_eq!(
+        answers(b"layout 3 17 35 1 1 268435459 1 4 -2147483648 2147483647 0 0 0 0 0 6 1 3000").trim_end(),
+        "layout 0 00000003 10000023 20000001 30000001 40000003 50000001 60000004 70000000 8FFFFFFF 90000000 A0000000 B0000000 \
+         C00BB806 D0000001 E0000781 F00BBFB7 DEADBEEF"
+    );
+    assert!(answers(b"sheet 15 35 1 1 0 1 1 0 1 5 0 0 0 0 2 1").starts_with("sheet 0 00000001 "));
+}
+
+/// Faults are told 2, 9, 10, 11, 3, 5, 6: each list has the later ones too.
+#[test]
+fn order_of_the_writer() {
+    let line = |layout: u32, length: u32, offset: i64, homing: u32, slow: u32, stops: &str| {
+        answers(format!("layout {layout} {length} 35 1 {slow} {offset} 1048576 1 {stops} 5 0 0 0 0 2 1 {homing}").as_bytes())
+    };
+    let (crossed, far) = ("2000 -2000", "-2000 2000");
+    for (answer, number) in [
+        (line(4, 14, 1 << 27, 6, 0, crossed), 2),
+        (line(1, 14, 1 << 27, 6, 0, crossed), 9),
+        (line(1, 15, 1 << 27, 6, 0, crossed), 10),
+        (line(1, 15, 0, 6, 0, crossed), 11),
+        (line(1, 15, 0, 5, 0, crossed), 3),
+        (line(1, 15, 0, 5, 1, crossed), 5),
+        (line(1, 15, 0, 5, 1, far), 6),
+        (line(2, 15, 1 << 27, 6, 0, crossed), 9),
+        (line(2, 16, 1 << 27, 6, 0, crossed), 11),
+        (line(2, 16, 1 << 27, 5, 0, crossed), 3),
+        (line(3, 15, 1 << 27, 6, 0, crossed), 9),
+        (line(3, 16, 1 << 27, 6, 0, crossed), 3),
+        (line(3, 16, 1 << 27, 6, 1, crossed), 5),
+        (line(3, 16, 1 << 27, 6, 1, far), 6),
+    ] {
+        assert!(answer.starts_with(&format!("layout {number} ")), "{number}: {answer}");
+    }
+}
+
+/// Kind 12: in layout 3 the homing torque stands in bits 8 to 19, and no other layout has any.
+#[test]
+fn homing_torque_of_the_words() {
+    let before = |layout: u32| {
+        let words = written(layout, &torques(2, 1000, [0; 4], ""));
+        words.lines().take(12).map(|line| format!("{line}\n")).collect::<String>()
+    };
+    let taken = |layout: u32, data: u32| {
+        let script = format!("{}word {:08X}", before(layout), 0xC000_0000 | data);
+        answers(script.as_bytes()).lines().last() == Some("word 0")
+    };
+    for torque in [0, 1, 0x555, 0xAAA, 2999, 3000, 3001, 3002, 4095] {
+        for option in [0, 1, 2, 3, 4, 5, 6, 7, 10, 18, 34, 66, 130, 255] {
+            let option_fits = option == 2 || option == 6;
+            let data = torque << 8 | option;
+            assert_eq!(taken(3, data), option_fits && torque <= 3000, "{data:X}");
+            assert_eq!([taken(1, data), taken(2, data)], [option_fits && torque == 0; 2], "{data:X}");
+        }
+    }
+    for bit in 20..28 {
+        for layout in [1, 2, 3] {
+            assert!(!taken(layout, 1 << bit | 2), "{layout}, {bit}");
+            assert!(!taken(layout, 1 << bit | 1 << 8 | 6), "{layout}, {bit}");
+        }
+    }
+}
+
+/// Says the words, is enabled in mode 6 and asks for 3000 both ways: control word, command, standstill and set, and what is
+/// handed out.
+fn torques_are(script: &str, ticks: &[(&str, &str, &str, i64, i64)]) {
+    let mut script = script.to_string();
+    for control in ["0", "6", "F", "F"] {
+        script += &format!("tick {control} homing 0 at 0 ---- still set1 0\n");
+    }
+    let mut expected = Vec::new();
+    for &(control, command, rest, above, below) in ticks {
+        for (sign, torque) in [("", above), ("-", below)] {
+            script += &format!("tick {control} {command} {sign}3000 at 0 ---- {rest} 0\n");
+            expected.push(torque.to_string());
+        }
+    }
+    let answers = answers(script.as_bytes());
+    let torques: Vec<&str> = answers.lines().filter_map(|line| line.split(' ').nth(3)).collect();
+    assert_eq!(torques[torques.len() - expected.len()..], expected, "{script}");
+}
+
+#[test]
+fn homing_torque_is_the_cap() {
+    let sheet = |maximum, homing| written(3, &torques(6, maximum, [800, 600, 300, 200], homing));
+    const ENABLED: &str = "F";
+    // Below both others: in mode 6 alone, and in quick stop, where the mode goes with the command.
+    torques_are(
+        &sheet(1000, "150"),
+        &[
+            (ENABLED, "homing", "still set1", 150, -150),
+            (ENABLED, "homing", "moving set2", 150, -150),
+            (ENABLED, "torque", "moving set1", 0, 0),
+            (ENABLED, "torque", "still set1", 800, -600),
+            (ENABLED, "homing", "moving set1", 0, 0),
+            (ENABLED, "position 0", "still set2", 300, -200),
+            (ENABLED, "homing", "still set2", 150, -150),
+            ("1F", "homing", "moving set1", 150, -150),
+            ("12", "homing", "moving set1", 150, -150),
+            ("12", "torque", "moving set1", 800, -600),
+            ("12", "homing", "moving set2", 150, -150),
+            ("12", "position 0", "moving set2", 300, -200),
+            (ENABLED, "homing", "still set2", 150, -150),
+        ],
+    );
+    let shutdown = "tick 6 rest at 0 ---- still set1 0\n".repeat(2);
+    let hybrid = "tick F hybrid 0 0 0 0 3 0 0 at 0 ---- still set1 0\n".repeat(3);
+    let answered = answers((sheet(1000, "150") + &shutdown + &hybrid).as_bytes());
+    assert!(answered.ends_with("tick 0 torque 800 speed 0 position 0 status 0237 mode -1 alarm 0\n"));
+    // Each of the three as the least.
+    for (maximum, homing, [above_1, below_1, above_2, below_2]) in [
+        (1000, "0", [0; 4]),
+        (1000, "250", [250, 250, 250, 200]),
+        (1000, "700", [700, 600, 300, 200]),
+        (1000, "1000", [800, 600, 300, 200]),
+        (100, "3000", [100; 4]),
+        (3000, "3000", [800, 600, 300, 200]),
+    ] {
+        torques_are(
+            &sheet(maximum, homing),
+            &[(ENABLED, "homing", "still set1", above_1, -below_1), (ENABLED, "homing", "still set2", above_2, -below_2)],
+        );
+    }
+}
+
+/// Layouts 1 and 2 read as the maximum, whatever was in force or left halfway before.
+#[test]
+fn homing_torque_of_older_layouts() {
+    let low = written(3, &torques(2, 1000, [3000; 4], "100"));
+    let halfway = |words: usize| low.lines().take(words).map(|line| format!("{line}\n")).collect::<String>();
+    for layout in [1, 2, 3] {
+        let old = written(layout, &torques(2, 700, [3000; 4], ""));
+        for before in [String::new(), low.clone(), halfway(12), halfway(13), halfway(15), low.repeat(2) + &halfway(14)] {
+            let script = before + &old;
+            torques_are(&script, &[("F", "homing", "still set1", 700, -700), ("F", "torque", "still set2", 700, -700)]);
+        }
     }
 }

@@ -224,8 +224,9 @@ pub fn tick(axis: &mut Axis, t: &Tick) -> Answer {
     let mut torque = 0;
     if matched && (enabled || state == QUICK_STOP_ACTIVE) {
         let limits = &s.limits[t.set as usize & 1];
-        let low = -(limits.negative.min(s.maximum) as i32);
-        let high = limits.positive.min(s.maximum) as i32;
+        let cap = if axis.mode == HOMING { s.homing } else { s.maximum };
+        let low = -(limits.negative.min(cap) as i32);
+        let high = limits.positive.min(cap) as i32;
         torque = demand.max(low).min(high) as i16;
     }
     Answer {

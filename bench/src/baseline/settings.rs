@@ -21,6 +21,8 @@ pub struct Settings {
     pub gear: Gear,
     pub rated: u32,
     pub maximum: u16,
+    /// The homing torque; of settings that were read, the lesser of it and the maximum, so that a tick compares them no more.
+    pub homing: u16,
     pub limits: [Limits; 2],
     pub method: u8,
     pub option: u8,
@@ -38,13 +40,17 @@ fn ratio_ok(ratio: u32) -> bool {
     ratio.wrapping_sub(1) < 1 << 20
 }
 
+fn option_ok(option: u8) -> bool {
+    option == 2 || option == 6
+}
+
 fn rated_ok(rated: u32) -> bool {
     rated.wrapping_sub(1) < 1 << 24
 }
 
-/// Layout 1 or 2.
+/// Layout 1, 2 or 3.
 fn layout_ok(layout: u32) -> bool {
-    layout.wrapping_sub(1) < 2
+    layout.wrapping_sub(1) < 3
 }
 
 /// 28 bits read as signed.
@@ -69,6 +75,7 @@ impl Settings {
         gear: Gear { offset: 0, numerator: 0, denominator: 1, lower: 0, upper: 0 },
         rated: 1,
         maximum: 0,
+        homing: 0,
         limits: [Limits { positive: 0, negative: 0 }; 2],
         method: 35,
         option: 2,
@@ -100,22 +107,23 @@ impl Settings {
             && ratio_ok(self.gear.numerator)
             && ratio_ok(self.gear.denominator)
             && torque_ok(self.maximum as u32)
+            && torque_ok(self.homing as u32)
             && self.limits.iter().all(|l| torque_ok(l.positive as u32) && torque_ok(l.negative as u32))
-            && (self.option == 2 || self.option == 6)
+            && option_ok(self.option)
             && rated_ok(self.rated)
     }
 }
 
-/// The settings that are being read: the kind due next, the one that comes after 13, and the sum of the data so far.
+/// The settings that are being read: the kind due next, the layout, and the sum of the data so far.
 pub struct Pending {
     pub settings: Settings,
     due: u8,
-    after_13: u8,
+    layout: u8,
     sum: u32,
 }
 
 impl Pending {
-    pub const EMPTY: Pending = Pending { settings: Settings::NONE, due: 0, after_13: 15, sum: 0 };
+    pub const EMPTY: Pending = Pending { settings: Settings::NONE, due: 0, layout: 1, sum: 0 };
 
     /// Takes one word. Where it is refused, or completes the settings, nothing stays due but a start word.
     pub fn take(&mut self, word: u32) -> u8 {
@@ -133,7 +141,7 @@ impl Pending {
                     self.due = 0;
                     return 2;
                 }
-                self.after_13 = 16 - data as u8;
+                self.layout = data as u8;
                 true
             }
             1 => {
@@ -170,6 +178,7 @@ impl Pending {
             }
             9 => {
                 s.maximum = data as u16;
+                s.homing = s.maximum;
                 torque_ok(data)
             }
             10 | 11 => {
@@ -179,7 +188,13 @@ impl Pending {
             }
             12 => {
                 s.option = data as u8;
-                data == 2 || data == 6
+                let torque = data >> 8;
+                if self.layout == 3 {
+                    s.homing = s.maximum.min(torque as u16);
+                    option_ok(s.option) && torque_ok(torque)
+                } else {
+                    option_ok(s.option) && torque == 0
+                }
             }
             13 => {
                 s.rated = data;
@@ -205,7 +220,7 @@ impl Pending {
             return 3;
         }
         self.sum += data;
-        self.due = if kind == 13 { self.after_13 } else { kind + 1 };
+        self.due = if kind == 13 && self.layout == 1 { 15 } else { kind + 1 };
         0
     }
 }
@@ -215,11 +230,15 @@ pub fn write_sheet(layout: u32, s: &Settings, buffer: &mut [u32]) -> u8 {
     if !layout_ok(layout) {
         return 2;
     }
-    if buffer.len() < 14 + layout as usize {
+    let long = layout != 1;
+    if buffer.len() < 15 + long as usize {
         return 9;
     }
-    if layout == 1 && !s.short() {
+    if !long && !s.short() {
         return 10;
+    }
+    if layout != 3 && s.homing != s.maximum {
+        return 11;
     }
     if !s.in_range() {
         return 3;
@@ -251,11 +270,16 @@ pub fn write_sheet(layout: u32, s: &Settings, buffer: &mut [u32]) -> u8 {
         words[kind] = (kind as u32) << 28 | x;
         sum += x;
     }
-    if layout == 2 {
+    if long {
         let tops = top(s.gear.offset, 0) | top(s.gear.lower, 4) | top(s.gear.upper, 8);
         last[0] = 14 << 28 | tops;
         sum += tops;
+        if layout == 3 {
+            let homing = (s.homing as u32) << 8;
+            words[12] |= homing;
+            sum += homing;
+        }
     }
-    last[layout as usize - 1] = 15 << 28 | sum & DATA;
+    last[long as usize] = 15 << 28 | sum & DATA;
     0
 }

@@ -8,7 +8,7 @@ use bench::words::settings;
 use rival::lines::{self, next_text, Line};
 use rival::{answers, refusal::Refusal, writer};
 
-const REFUSALS: [Refusal; 10] = [
+const REFUSALS: [Refusal; 11] = [
     Refusal::OutOfTurn,
     Refusal::StrangeLayout,
     Refusal::OutOfRange,
@@ -19,6 +19,7 @@ const REFUSALS: [Refusal; 10] = [
     Refusal::NoSheet,
     Refusal::ShortBuffer,
     Refusal::LongValue,
+    Refusal::HomingTorqueLost,
 ];
 
 fn refusal(number: u8) -> Option<Refusal> {

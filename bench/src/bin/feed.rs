@@ -1,7 +1,7 @@
 //! Prints the rows, and hybrid storms after them, as events that `c/replay.c` reads, for a machine on which `workload` does not run. A line
 //! `row NAME` stands before each row, which begins with a fresh axis; a line `counted` between what comes before and what is counted.
 
-use bench::rows::{rows, storm, Row, FIELDS, NAMES, STORMS, TOURING_FIELDS};
+use bench::rows::{homing_fields, rows, storm, Row, FIELDS, NAMES, STORMS, TOURING_FIELDS};
 use bench::words::Event;
 
 fn print(keyword: &str, words: &[u32]) {
@@ -31,6 +31,8 @@ fn main() {
     }
     println!("row settings written as words\nfresh\ncounted");
     print("sheet", &[&[20], &FIELDS[..]].concat());
-    println!("row settings written as words of layout 2\nfresh\ncounted");
-    print("layout", &[&[2, 20], &TOURING_FIELDS[..]].concat());
+    for (layout, fields) in [(2, TOURING_FIELDS), (3, homing_fields())] {
+        println!("row settings written as words of layout {layout}\nfresh\ncounted");
+        print("layout", &[&[layout, 20], &fields[..]].concat());
+    }
 }

@@ -102,7 +102,11 @@ fn main() -> io::Result<()> {
         let per = |calls: &[&str]| (cost(&format!("row{i}::whole"), calls) - cost(&format!("row{i}::before"), calls)) / n;
         print_row(name, per(&["axis_word", "axis_tick"]), per(&["baseline_word", "baseline_tick"]));
     }
-    for (name, caller) in [("settings written as words", "write_layout_1"), ("settings written as words of layout 2", "write_layout_2")] {
+    for (name, caller) in [
+        ("settings written as words", "write_layout_1"),
+        ("settings written as words of layout 2", "write_layout_2"),
+        ("settings written as words of layout 3", "write_layout_3"),
+    ] {
         print_row(name, cost(caller, &["axis_write"]), cost(caller, &["baseline_write"]));
     }
 

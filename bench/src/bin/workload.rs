@@ -6,8 +6,8 @@ use std::io;
 
 use bench::baseline::Axis;
 use bench::lines::tick;
-use bench::rows::{rows, then, Row, FIELDS, SHEET, TOURING_FIELDS, TOURING_SHEET};
-use bench::words::{baseline_fresh, baseline_tick, baseline_word, baseline_write, event, settings, Event, AXIS_WORDS, WIDTH};
+use bench::rows::{homing_fields, homing_sheet, rows, then, Row, FIELDS, SHEET, TOURING_FIELDS, TOURING_SHEET};
+use bench::words::{baseline_fresh, baseline_tick, baseline_word, baseline_write, event, settings, Event, AXIS_FIELDS, AXIS_WORDS, WIDTH};
 
 // As c/axis.h has them.
 #[link(name = "exports", kind = "static")]
@@ -72,11 +72,11 @@ macro_rules! callers {
     };
 }
 
-callers!(row0 row1 row2 row3 row4 row5 row6 row7 row8 row9 row10 row11 row12 row13 row14 row15 row16 row17 row18 row19 row20);
+callers!(row0 row1 row2 row3 row4 row5 row6 row7 row8 row9 row10 row11 row12 row13 row14 row15 row16 row17 row18 row19 row20 row21 row22 row23 row24);
 
 /// Has the settings written by both sides; the buffers agree, and begin with these words.
 #[inline(always)]
-fn write_both(layout: u32, fields: &[u32; 15], words: &[u32]) {
+fn write_both(layout: u32, fields: &[u32; AXIS_FIELDS], words: &[u32]) {
     let s = settings(fields);
     let mut proved = [LENT; 20];
     let mut plain = proved;
@@ -102,6 +102,11 @@ fn write_layout_2() {
     write_both(2, &TOURING_FIELDS, &TOURING_SHEET)
 }
 
+#[inline(never)]
+fn write_layout_3() {
+    write_both(3, &homing_fields(), &homing_sheet())
+}
+
 /// The words and ticks of a script; its other lines are left out.
 fn script() -> io::Result<Vec<Event>> {
     use rival::lines::{next_text, read, Line};
@@ -123,6 +128,7 @@ fn main() -> io::Result<()> {
     run_rows(&rows);
     write_layout_1();
     write_layout_2();
+    write_layout_3();
     for row in &rows {
         println!("{}", row.counted.len());
     }

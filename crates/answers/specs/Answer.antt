@@ -56,7 +56,7 @@ answerBy s t a torque speed =
 
 unfoldable pub answerIn : Settings → Tick → Motion → Answer
 answerIn s t a =
-    answerBy s t a (torqueOf s (t .set) (torqueOn t a) (wholeDemand (demandIn s t))) (speedOf s (a .phase) (bitOf (t .control) 8))
+    answerBy s t a (torqueOf s (a .mode) (t .set) (torqueOn t a) (wholeDemand (demandIn s t))) (speedOf s (a .phase) (bitOf (t .control) 8))
 
 -- a tick under settings: what it leaves, and its answer
 pub record Answered : Type 0 where

@@ -211,7 +211,7 @@ handed s t a torque speed phase homed followed home position clamped follows lim
 
 -- with the torque and the speed that the rules say, the answer is the tick's
 pub answered : (s : Settings) (t : Tick) (a : Motion) {d : Demand} {torque speed : ℤ} → d ≡ demandIn s t
-    → torque ≡ torqueOf s (t .set) (torqueOn t a) (wholeDemand d) → speed ≡ speedOf s (a .phase) (bitOf (t .control) 8)
+    → torque ≡ torqueOf s (a .mode) (t .set) (torqueOn t a) (wholeDemand d) → speed ≡ speedOf s (a .phase) (bitOf (t .control) 8)
     → answerBy s t a torque speed ≡ answerIn s t a
 unfolding answerIn
 answered s t a demand torque speed = rw (torque, speed, demand)

@@ -76,23 +76,27 @@ pub live-end : (l : List ℕ) (s : Settings) → liveOf (motionIn l .state) ≡ 
 unfolding axisIn
 live-end l s e = record { axis = rw e; verdict = rw e; inputs = record { before = refl; after = refl }; kept = λ n. refl }
 
-pub takeover-end : (l m : List ℕ) (s : Settings) → s ≡ settingsFrom (s .offset) (s .lower) (s .upper) (firstValuesIn l) → liveOf (motionIn l .state) ≡ false
-    → TakenOver l (s .offset) (s .lower) (s .upper) m → Completes l s m Accepted
+-- settings of some values, but for what layouts carry in their own ways, which is theirs
+abbrev refilled : Settings → List ℕ → Settings
+refilled s d = settingsFrom (s .offset) (s .lower) (s .upper) (s .option) (s .homing) d
+
+pub takeover-end : (l m : List ℕ) (s : Settings) → s ≡ refilled s (firstValuesIn l) → liveOf (motionIn l .state) ≡ false
+    → TakenOver l (s .offset) (s .lower) (s .upper) (s .option) (s .homing) m → Completes l s m Accepted
 unfolding axisIn
 takeover-end l m s q e c =
     let into : Settings → Axis = λ x. record { active = Set x; pending = pendingIn l; motion = idled (motionIn l) } in
     record { axis = rw e (c .axis ∙ ap into (sym q)); verdict = rw e; inputs = c .motion; kept = λ n. absurd (n refl) }
 
 -- once all have come, the values are the words themselves
-values-come : (l : List ℕ) (k n : ℕ) → k + n ≤ pendingIn l .count → valuesFrom k n (valueIn l) ≡ cellsFrom (23 + k) n l
+values-come : (l : List ℕ) (k n : ℕ) → k + n ≤ pendingIn l .count → valuesFrom k n (valueIn l) ≡ cellsFrom (24 + k) n l
 values-come l k zero h = refl
 values-come l k (suc n) h =
-    let here : valueIn l k ≡ wordAt l (23 + k) = rw (lt-ltb k (pendingIn l .count) (omega arith)) in
-    let later : valuesFrom (suc k) n (valueIn l) ≡ cellsFrom (suc (23 + k)) n l =
+    let here : valueIn l k ≡ wordAt l (24 + k) = rw (lt-ltb k (pendingIn l .count) (omega arith)) in
+    let later : valuesFrom (suc k) n (valueIn l) ≡ cellsFrom (suc (24 + k)) n l =
     values-come l (suc k) n (omega arith) ∙ ap (λ (i : ℕ). cellsFrom i n l) (omega arith) in
     ap₂ (λ (x : ℕ) (t : List ℕ). x ∷ t) here later
 
--- in either layout kinds 0 to 13 have come where an end word is due
+-- in each layout kinds 0 to 13 have come where an end word is due
 come : (l : List ℕ) → size (layoutIn (pendingIn l)) ≤ pendingIn l .count → pendingIn l .values ≡ valuesIn l
 come l h = ap (λ (t : List ℕ). t ++ valueIn l 14 ∷ []) (values-come l 0 14 (omega (arith, size-least (layoutIn (pendingIn l)), h)))
 
@@ -109,12 +113,12 @@ module _ {l : List ℕ} {sum : ℕ} {s : Settings} {w : Verdict} {m : List ℕ} 
   ended = rw (come l (c .due), c .verdict, c .settings)
 
   -- emptied words leave the values
-  pub rebuilt : s ≡ settingsFrom (s .offset) (s .lower) (s .upper) (firstValuesIn m)
+  pub rebuilt : s ≡ refilled s (firstValuesIn m)
   unfolding settingsOf
   rebuilt =
       let e = c .settings in
-      let same : firstValuesIn m ≡ firstValuesIn l = ap firstValuesIn (c .emptied .words) ∙ cells-past l 22 0 23 14 (omega arith) in
-      e ∙ ap₂ (λ (x : Settings) (d : List ℕ). settingsFrom (x .offset) (x .lower) (x .upper) d) (sym e) (sym same)
+      let same : firstValuesIn m ≡ firstValuesIn l = ap firstValuesIn (c .emptied .words) ∙ cells-past l 23 0 24 14 (omega arith) in
+      e ∙ ap₂ refilled (sym e) (sym same)
 
   pub refused-end : (r : Refusal) → w ≡ Refused r → Takes l true (readIn l (endRead (pendingIn l) sum)) m (Refused r)
   refused-end r q = rw (ended ∙ ap (judged s) q) (refused-word l m true r (c .emptied))
@@ -130,7 +134,7 @@ module _ {l : List ℕ} {sum : ℕ} {s : Settings} {w : Verdict} {m : List ℕ} 
         axis = d .axis ∙ ap (λ (y : Worded). y .axis) x;
         verdict = d .verdict ∙ ap (λ (y : Worded). y .verdict) x;
         inputs = record { before = d .inputs .before ∙ i .before; after = d .inputs .after ∙ i .after };
-        kept = λ q. let k = d .kept (λ a. q a refl) in (ap (λ (a : List ℕ). take 14 (drop 8 a)) k ∙ p .settings, ap motionWords k ∙ p .motion);
+        kept = λ q. let k = d .kept (λ a. q a refl) in (ap (λ (a : List ℕ). take 15 (drop 8 a)) k ∙ p .settings, ap motionWords k ∙ p .motion);
         refused = λ r q. d .kept (λ a. accepted-refused (sym a ∙ q)) ∙ c .emptied .words;
       })
 

@@ -41,7 +41,7 @@ module _ (l m n k : List ℕ) (t : Tick) where
 
   pub ran : {wanted mode : Mode} {demand : Demand} {alarm number : ℕ} {state : State} {on : Bool} {torque speed position : ℤ} {switches : Switches}
       {r : Answer} → wanted ≡ modeOf (t .command) → demand ≡ demandIn s t → alarm ≡ alarmIn s t → state ≡ newState s a t → mode ≡ newMode a t
-      → number ≡ latchedOf (a .alarm) (a .state) state alarm → torque ≡ torqueOf s (t .set) (liveOf state && matchedOf wanted mode) (wholeDemand demand)
+      → number ≡ latchedOf (a .alarm) (a .state) state alarm → torque ≡ torqueOf s mode (t .set) (liveOf state && matchedOf wanted mode) (wholeDemand demand)
       → Moved l (driven a state mode number) m → on ≡ homingOn wanted mode state → Homes m t on n speed
       → switches ≡ t .switches → position ≡ t .position → Moved n (fed (motionIn n) (t .control) switches position) k
       → r ≡ answerBy (settingsIn k) t (driven (motionIn k) state mode number) torque speed → Runs l t k r
@@ -58,7 +58,7 @@ module _ (l m n k : List ℕ) (t : Tick) where
       ∙ ap₂ (fed (homingBy s (driven a state mode number) t on) (t .control)) sw pos in
       let after : x ≡ motionAfter s a t = assembled s a t w al md st num o in
       let all = moved-again drive (moved-again (homes .moved) inputs) in
-      let torque2 = tq ∙ ap (λ (y : Mode). torqueOf s (t .set) (liveOf state && matchedOf y mode) (wholeDemand demand)) w in
+      let torque2 = tq ∙ ap (λ (y : Mode). torqueOf s mode (t .set) (liveOf state && matchedOf y mode) (wholeDemand demand)) w in
       let speed2 = homes .speed ∙ ap₂ (λ (y : Settings) (b : Motion). speedOf y (phaseBy y b t on) (bitOf (t .control) 8)) s1 m1 in
       record {
         axis = all .axis ∙ ap (withMotion (axisIn l)) (fedby ∙ after);

@@ -29,7 +29,7 @@ pub fn fresh(axis: &mut Lent)
 fn start(axis: &mut Lent, layout: u32) -> Verdict
     ensures { λ r. ⌜ Takes (now (axis .entry)) false (readIn (now (axis .entry)) (startRead layout)) (now (axis .exit)) r ⌝ }
 {
-    if kinds::field_ok(0, layout) {
+    if layouts::is_layout(layout) {
         cells::begin(axis, layout);
         Verdict::Accepted
     } else {
@@ -39,11 +39,11 @@ fn start(axis: &mut Lent, layout: u32) -> Verdict
 }
 
 // Keeps one word's data, of the kind that is due.
-fn store(axis: &mut Lent, kind: u32, value: u32) -> Verdict
-    requires { ⌜ (kind < 15) × (kind ≡ pendingIn (now axis) .count) ⌝ }
+fn store(axis: &mut Lent, layout: u32, kind: u32, value: u32) -> Verdict
+    requires { ⌜ (layout ≡ layoutIn (pendingIn (now axis))) × (kind < 15) × (kind ≡ pendingIn (now axis) .count) ⌝ }
     ensures { λ r. ⌜ Takes (now (axis .entry)) false (readIn (now (axis .entry)) (fieldRead (pendingIn (now (axis .entry))) kind value)) (now (axis .exit)) r ⌝ }
 {
-    if kinds::field_ok(kind, value) {
+    if kinds::field_ok(layout, kind, value) {
         cells::append(axis, value);
         Verdict::Accepted
     } else {
@@ -54,14 +54,14 @@ fn store(axis: &mut Lent, kind: u32, value: u32) -> Verdict
 
 // Complete settings come into force (01: takeover), unless the drive is live.
 fn complete(axis: &mut Lent, s: Settings) -> Verdict
-    requires { ⌜ s ≡ settingsFrom (s .offset) (s .lower) (s .upper) (firstValuesIn (now axis)) ⌝ }
+    requires { ⌜ s ≡ settingsFrom (s .offset) (s .lower) (s .upper) (s .option) (s .homing) (firstValuesIn (now axis)) ⌝ }
     ensures { λ r. ⌜ Completes (now (axis .entry)) s (now (axis .exit)) r ⌝ }
 {
     let state = cells::state(axis);
     if states::is_live(state) {
         Verdict::Refused(Refusal::DriveActive)
     } else {
-        cells::take_over(axis, s.offset, s.lower, s.upper);
+        cells::take_over(axis, s.offset, s.lower, s.upper, s.option, s.homing);
         Verdict::Accepted
     }
 }
@@ -88,10 +88,11 @@ pub fn word(axis: &mut Lent, word: u32) -> Verdict
     if kind == 0 {
         return start(axis, word % KIND);
     }
-    if kind == reader::due_kind(cells::layout(axis), cells::count(axis)) {
+    let layout = cells::layout(axis);
+    if kind == reader::due_kind(layout, cells::count(axis)) {
         let value = word % KIND;
         if kind < 15 {
-            store(axis, kind, value)
+            store(axis, layout, kind, value)
         } else {
             finish(axis, value)
         }

@@ -66,11 +66,11 @@ fn drive_after(axis: &Lent, t: Tick, wanted: Mode, alarm: u32) -> Drive
     }
 }
 
-fn torque_in(axis: &Lent, set: LimitSet, on: bool, demand: Demand) -> i32
-    ensures { λ r. ⌜ r ≡ torqueOf (settingsIn (now (axis .entry))) set on (wholeDemand demand) ⌝ }
+fn torque_in(axis: &Lent, mode: Mode, set: LimitSet, on: bool, demand: Demand) -> i32
+    ensures { λ r. ⌜ r ≡ torqueOf (settingsIn (now (axis .entry))) mode set on (wholeDemand demand) ⌝ }
 {
     if on {
-        torque::torque(cells::settings_in(axis), set, on, demand)
+        torque::torque(cells::settings_in(axis), mode, set, on, demand)
     } else {
         0
     }
@@ -225,7 +225,7 @@ pub fn tick(axis: &mut Lent, t: Tick) -> Answer
     let state = d.state;
     let mode = d.mode;
     let on = states::is_live(state) & modes::is_matched(wanted, mode);
-    let torque = torque_in(axis, set, on, demand);
+    let torque = torque_in(axis, mode, set, on, demand);
     cells::put_drive(axis, state, mode, d.alarm);
     let speed = homing_after(axis, t, bits, ticks::homing_on(wanted, mode, state));
     cells::put_inputs(axis, t.control, bits, t.position);

@@ -33,43 +33,44 @@ pub unchanged : {l : List ℕ} → Pends l (pendingIn l) l
 unfolding axisIn
 unchanged = record { axis = refl; settings = refl; motion = refl }
 
-module _ (l : List ℕ) (h : length l ≡ 38) where
+module _ (l : List ℕ) (h : length l ≡ 39) where
   pub emptying : Emptied l (emptied l)
   unfolding axisIn activeIn
-  emptying = record { pends = rw (spelled 38 l h) (record { axis = refl; settings = refl; motion = refl }); words = refl }
+  emptying = record { pends = rw (spelled 39 l h) (record { axis = refl; settings = refl; motion = refl }); words = refl }
 
-  pub begun : (layout : ℕ) → Pends l (started layout) (set (set l 22 1) 23 layout)
+  pub begun : (layout : ℕ) → Pends l (started layout) (set (set l 23 1) 24 layout)
   unfolding axisIn activeIn
-  begun layout = rw (spelled 38 l h) (record { axis = refl; settings = refl; motion = refl })
+  begun layout = rw (spelled 39 l h) (record { axis = refl; settings = refl; motion = refl })
 
   -- a store at a computed place: each of the fifteen computes
-  pub stored-value : (k x : ℕ) → k < 15 → wordAt l 22 ≡ k → Pends l (kept (pendingIn l) k x) (set (set l (23 + k) x) 22 (k + 1))
+  pub stored-value : (k x : ℕ) → k < 15 → wordAt l 23 ≡ k → Pends l (kept (pendingIn l) k x) (set (set l (24 + k) x) 23 (k + 1))
   unfolding axisIn activeIn
-  stored-value zero x b e = rw (spelled 38 l h, e) (record { axis = refl; settings = refl; motion = refl })
-  stored-value (suc zero) x b e = rw (spelled 38 l h, e) (record { axis = refl; settings = refl; motion = refl })
-  stored-value (suc (suc zero)) x b e = rw (spelled 38 l h, e) (record { axis = refl; settings = refl; motion = refl })
-  stored-value (suc (suc (suc zero))) x b e = rw (spelled 38 l h, e) (record { axis = refl; settings = refl; motion = refl })
-  stored-value (suc (suc (suc (suc zero)))) x b e = rw (spelled 38 l h, e) (record { axis = refl; settings = refl; motion = refl })
-  stored-value (suc (suc (suc (suc (suc zero))))) x b e = rw (spelled 38 l h, e) (record { axis = refl; settings = refl; motion = refl })
-  stored-value (suc (suc (suc (suc (suc (suc zero)))))) x b e = rw (spelled 38 l h, e) (record { axis = refl; settings = refl; motion = refl })
-  stored-value (suc (suc (suc (suc (suc (suc (suc zero))))))) x b e = rw (spelled 38 l h, e) (record { axis = refl; settings = refl; motion = refl })
-  stored-value (suc (suc (suc (suc (suc (suc (suc (suc zero)))))))) x b e = rw (spelled 38 l h, e) (record { axis = refl; settings = refl; motion = refl })
-  stored-value (suc (suc (suc (suc (suc (suc (suc (suc (suc zero))))))))) x b e = rw (spelled 38 l h, e) (record { axis = refl; settings = refl; motion = refl })
-  stored-value (suc (suc (suc (suc (suc (suc (suc (suc (suc (suc zero)))))))))) x b e = rw (spelled 38 l h, e) (record { axis = refl; settings = refl; motion = refl })
-  stored-value (suc (suc (suc (suc (suc (suc (suc (suc (suc (suc (suc zero))))))))))) x b e = rw (spelled 38 l h, e) (record { axis = refl; settings = refl; motion = refl })
-  stored-value (suc (suc (suc (suc (suc (suc (suc (suc (suc (suc (suc (suc zero)))))))))))) x b e = rw (spelled 38 l h, e) (record { axis = refl; settings = refl; motion = refl })
-  stored-value (suc (suc (suc (suc (suc (suc (suc (suc (suc (suc (suc (suc (suc zero))))))))))))) x b e = rw (spelled 38 l h, e) (record { axis = refl; settings = refl; motion = refl })
-  stored-value (suc (suc (suc (suc (suc (suc (suc (suc (suc (suc (suc (suc (suc (suc zero)))))))))))))) x b e = rw (spelled 38 l h, e) (record { axis = refl; settings = refl; motion = refl })
+  stored-value zero x b e = rw (spelled 39 l h, e) (record { axis = refl; settings = refl; motion = refl })
+  stored-value (suc zero) x b e = rw (spelled 39 l h, e) (record { axis = refl; settings = refl; motion = refl })
+  stored-value (suc (suc zero)) x b e = rw (spelled 39 l h, e) (record { axis = refl; settings = refl; motion = refl })
+  stored-value (suc (suc (suc zero))) x b e = rw (spelled 39 l h, e) (record { axis = refl; settings = refl; motion = refl })
+  stored-value (suc (suc (suc (suc zero)))) x b e = rw (spelled 39 l h, e) (record { axis = refl; settings = refl; motion = refl })
+  stored-value (suc (suc (suc (suc (suc zero))))) x b e = rw (spelled 39 l h, e) (record { axis = refl; settings = refl; motion = refl })
+  stored-value (suc (suc (suc (suc (suc (suc zero)))))) x b e = rw (spelled 39 l h, e) (record { axis = refl; settings = refl; motion = refl })
+  stored-value (suc (suc (suc (suc (suc (suc (suc zero))))))) x b e = rw (spelled 39 l h, e) (record { axis = refl; settings = refl; motion = refl })
+  stored-value (suc (suc (suc (suc (suc (suc (suc (suc zero)))))))) x b e = rw (spelled 39 l h, e) (record { axis = refl; settings = refl; motion = refl })
+  stored-value (suc (suc (suc (suc (suc (suc (suc (suc (suc zero))))))))) x b e = rw (spelled 39 l h, e) (record { axis = refl; settings = refl; motion = refl })
+  stored-value (suc (suc (suc (suc (suc (suc (suc (suc (suc (suc zero)))))))))) x b e = rw (spelled 39 l h, e) (record { axis = refl; settings = refl; motion = refl })
+  stored-value (suc (suc (suc (suc (suc (suc (suc (suc (suc (suc (suc zero))))))))))) x b e = rw (spelled 39 l h, e) (record { axis = refl; settings = refl; motion = refl })
+  stored-value (suc (suc (suc (suc (suc (suc (suc (suc (suc (suc (suc (suc zero)))))))))))) x b e = rw (spelled 39 l h, e) (record { axis = refl; settings = refl; motion = refl })
+  stored-value (suc (suc (suc (suc (suc (suc (suc (suc (suc (suc (suc (suc (suc zero))))))))))))) x b e = rw (spelled 39 l h, e) (record { axis = refl; settings = refl; motion = refl })
+  stored-value (suc (suc (suc (suc (suc (suc (suc (suc (suc (suc (suc (suc (suc (suc zero)))))))))))))) x b e = rw (spelled 39 l h, e) (record { axis = refl; settings = refl; motion = refl })
   stored-value (suc (suc (suc (suc (suc (suc (suc (suc (suc (suc (suc (suc (suc (suc (suc k))))))))))))))) x b e = absurd (omega arith)
 
-  pub taken-over : (offset lower upper : ℤ) → mag offset < 2 ^ 31 → mag lower < 2 ^ 31 → mag upper < 2 ^ 31
-      → TakenOver l offset lower upper (set (set (set (set (set (copied 13 l) 8 1) 12 (modulo 32 offset)) 15 (modulo 32 lower)) 16 (modulo 32 upper)) 3 0)
+  pub taken-over : (offset lower upper : ℤ) (option homing : ℕ) → mag offset < 2 ^ 31 → mag lower < 2 ^ 31 → mag upper < 2 ^ 31
+      → TakenOver l offset lower upper option homing
+      (set (set (set (set (set (set (set (copied 13 l) 8 1) 12 (modulo 32 offset)) 15 (modulo 32 lower)) 16 (modulo 32 upper)) 20 option) 22 homing) 3 0)
   unfolding axisIn activeIn phaseOf
-  taken-over offset lower upper f g k =
+  taken-over offset lower upper option homing f g k =
       record {
-        axis = rw (spelled 38 l h, signed-back offset f, signed-back lower g, signed-back upper k);
-        pending = rw (spelled 38 l h);
-        motion = rw (spelled 38 l h) (record { before = refl; after = refl });
+        axis = rw (spelled 39 l h, signed-back offset f, signed-back lower g, signed-back upper k);
+        pending = rw (spelled 39 l h);
+        motion = rw (spelled 39 l h) (record { before = refl; after = refl });
       }
 
 -- a store leaves the words past it
@@ -81,17 +82,17 @@ cells-past l i x k (suc n) h =
 -- copying leaves the words past it
 copied-past : (k j : ℕ) (l : List ℕ) → 8 + k < j → wordAt (copied k l) j ≡ wordAt l j
 copied-past zero j l h = refl
-copied-past (suc k) j l h = getD-set-other (copied k l) (9 + k) j (wordAt l (24 + k)) 0 (λ e. omega arith) ∙ copied-past k j l (omega arith)
+copied-past (suc k) j l h = getD-set-other (copied k l) (9 + k) j (wordAt l (25 + k)) 0 (λ e. omega arith) ∙ copied-past k j l (omega arith)
 
 -- one word more
-pub copied-more : (l m : List ℕ) (i : ℕ) → 1 ≤ i → m ≡ copied (i - 1) l → set m (8 + i) (wordAt m (23 + i)) ≡ copied (i + 1 - 1) l
+pub copied-more : (l m : List ℕ) (i : ℕ) → 1 ≤ i → m ≡ copied (i - 1) l → set m (8 + i) (wordAt m (24 + i)) ≡ copied (i + 1 - 1) l
 copied-more l m zero h e = absurd (omega arith)
 copied-more l m (suc k) h e =
     let a : suc k - 1 ≡ k = omega arith in
     let b : suc k + 1 - 1 ≡ suc k = omega arith in
     let p : 8 + suc k ≡ 9 + k = omega arith in
     let d : m ≡ copied k l = rw a at e in
-    let x : wordAt m (23 + suc k) ≡ wordAt l (24 + k) = rw d (copied-past k (23 + suc k) l (omega arith) ∙ ap (wordAt l) (omega arith)) in
+    let x : wordAt m (24 + suc k) ≡ wordAt l (25 + k) = rw d (copied-past k (24 + suc k) l (omega arith) ∙ ap (wordAt l) (omega arith)) in
     rw (b, x, d, p)
 
 -- a sum taken modulo 2 ^ 32 at each turn
@@ -101,23 +102,23 @@ summed l k zero = let i : k + 0 ≡ k = omega arith in rw i (omega arith)
 summed l k (suc n) = let i : k + suc n ≡ suc k + n = omega arith in rw i (let e = summed l (suc k) n in omega (arith, e))
 
 -- the parts of motion: what is stored reads back
-module _ (l : List ℕ) (h : length l ≡ 38) where
+module _ (l : List ℕ) (h : length l ≡ 39) where
   pub driven-words : (state : State) (mode : Mode) (alarm : ℕ)
       → Moved l (driven (motionIn l) state mode alarm) (set (set (set l 0 (stateNumber state)) 1 (modeOrdinal mode)) 2 alarm)
   unfolding axisIn activeIn
-  driven-words state mode alarm = record { axis = rw (spelled 38 l h, state-back state, mode-back mode); kept = rw (spelled 38 l h) }
+  driven-words state mode alarm = record { axis = rw (spelled 39 l h, state-back state, mode-back mode); kept = rw (spelled 39 l h) }
 
   pub phased-words : (phase : ℕ) → Moved l (phased (motionIn l) (phaseOf phase)) (set l 3 phase)
   unfolding axisIn activeIn
-  phased-words phase = record { axis = rw (spelled 38 l h); kept = rw (spelled 38 l h) }
+  phased-words phase = record { axis = rw (spelled 39 l h); kept = rw (spelled 39 l h) }
 
   pub home-words : (home : ℤ) → mag home < 2 ^ 31 → Moved l (homeAt (motionIn l) home) (set l 4 (modulo 32 home))
   unfolding axisIn activeIn
-  home-words home f = record { axis = rw (spelled 38 l h, signed-back home f); kept = rw (spelled 38 l h) }
+  home-words home f = record { axis = rw (spelled 39 l h, signed-back home f); kept = rw (spelled 39 l h) }
 
   pub fed-words : (control switches : ℕ) (position : ℤ) → control < 2 ^ 16 → mag position < 2 ^ 31
       → Moved l (fed (motionIn l) control (switchesIn switches) position) (set (set (set l 5 control) 6 switches) 7 (modulo 32 position))
   unfolding axisIn activeIn
   fed-words control switches position f g =
       let k : control % 2 ^ 16 ≡ control = omega arith in
-      record { axis = rw (spelled 38 l h, k, signed-back position g); kept = rw (spelled 38 l h) }
+      record { axis = rw (spelled 39 l h, k, signed-back position g); kept = rw (spelled 39 l h) }

@@ -1,9 +1,9 @@
 -- What the lent words mean. Every content of them means some axis.
 --   0 to 7    motion: state, mode, alarm number, homing phase, home, control word, switches, position
---   8 to 21   the settings in force, as the data of their settings words, but offset and limits (12, 15, 16) in 32 bits; word 8 is 0 exactly where
---             none are in force
---   22        how many settings words are pending
---   23 to 37  their data; word 23 + k is of no meaning where k is not below that count
+--   8 to 22   the settings in force, as the data of their settings words, but offset and limits (12, 15, 16) in 32 bits, and the option (20) and homing
+--             torque (22) each in a word of its own; word 8 is 0 exactly where none are in force
+--   23        how many settings words are pending
+--   24 to 38  their data; word 24 + k is of no meaning where k is not below that count
 -- Assumes nothing.
 use Prim.Native.Nat.{ℕ, _+_, _%_, _^_}
 use mathlib.Core.Path.{_≡_}
@@ -27,19 +27,19 @@ use Rattle.cells.specs.Lists.{cellsFrom, valuesFrom}
 abbrev pub signedIn : List ℕ → ℕ → ℤ
 signedIn l k = wrapped (pos (wordAt l k))
 
--- the settings that words 8 to 21 carry
+-- the settings that words 8 to 22 carry
 abbrev pub settingsIn : List ℕ → Settings
-settingsIn l = settingsFrom (signedIn l 12) (signedIn l 15) (signedIn l 16) (cellsFrom 8 14 l)
+settingsIn l = settingsFrom (signedIn l 12) (signedIn l 15) (signedIn l 16) (wordAt l 20) (wordAt l 22) (cellsFrom 8 14 l)
 
 unfoldable pub activeIn : List ℕ → Active
 activeIn l = cond (eqb (wordAt l 8) 0) Nothing (Set (settingsIn l))
 
 -- a value that has come; 0 where none has
 abbrev pub valueIn : List ℕ → ℕ → ℕ
-valueIn l k = cond (ltb k (wordAt l 22)) (wordAt l (23 + k)) 0
+valueIn l k = cond (ltb k (wordAt l 23)) (wordAt l (24 + k)) 0
 
 abbrev pub pendingIn : List ℕ → Pending
-pendingIn l = record { count = wordAt l 22; values = valuesFrom 0 15 (valueIn l) }
+pendingIn l = record { count = wordAt l 23; values = valuesFrom 0 15 (valueIn l) }
 
 abbrev pub motionIn : List ℕ → Motion
 motionIn l =
@@ -59,7 +59,7 @@ axisIn l = record { active = activeIn l; pending = pendingIn l; motion = motionI
 
 -- zeros are a fresh axis
 abbrev pub ZerosAreFresh : Type 0
-ZerosAreFresh = axisIn (replicate 38 0) ≡ freshAxis
+ZerosAreFresh = axisIn (replicate 39 0) ≡ freshAxis
 
 -- the words of motion
 abbrev pub motionWords : List ℕ → List ℕ
@@ -70,10 +70,10 @@ abbrev pub MotionKept : List ℕ → List ℕ → Type 0
 MotionKept l m = motionWords m ≡ motionWords l
 
 abbrev pub SettingsKept : List ℕ → List ℕ → Type 0
-SettingsKept l m = take 14 (drop 8 m) ≡ take 14 (drop 8 l)
+SettingsKept l m = take 15 (drop 8 m) ≡ take 15 (drop 8 l)
 
 abbrev pub PendingKept : List ℕ → List ℕ → Type 0
-PendingKept l m = drop 22 m ≡ drop 22 l
+PendingKept l m = drop 23 m ≡ drop 23 l
 
 abbrev pub AllButMotionKept : List ℕ → List ℕ → Type 0
 AllButMotionKept l m = drop 8 m ≡ drop 8 l

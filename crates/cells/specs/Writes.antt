@@ -20,7 +20,7 @@ use Rattle.cells.specs.Cells.{valueIn, pendingIn, motionIn, axisIn, moti
 
 pub record Cleared (m : List ℕ) : Type 0 where
   pub axis : axisIn m ≡ freshAxis
-  pub words : m ≡ replicate 38 0
+  pub words : m ≡ replicate 39 0
 
 -- other pending settings, and nothing else
 pub record Pends (l : List ℕ) (p : Pending) (m : List ℕ) : Type 0 where
@@ -30,7 +30,7 @@ pub record Pends (l : List ℕ) (p : Pending) (m : List ℕ) : Type 0 where
 
 -- nothing pending: the count alone is written
 abbrev pub emptied : List ℕ → List ℕ
-emptied l = set l 22 0
+emptied l = set l 23 0
 
 pub record Emptied (l m : List ℕ) : Type 0 where
   pub pends : Pends l emptyPending m
@@ -53,20 +53,21 @@ pub record InputsKept (l m : List ℕ) : Type 0 where
 
 -- the words of the pending values of kinds 0 to 13 as they stand; all of them have come where an end word is due
 abbrev pub firstValuesIn : List ℕ → List ℕ
-firstValuesIn l = cellsFrom 23 14 l
+firstValuesIn l = cellsFrom 24 14 l
 
--- and kind 14's, which has come in layout 2 alone
+-- and kind 14's, which layout 1 does not have
 abbrev pub valuesIn : List ℕ → List ℕ
 valuesIn l = firstValuesIn l ++ valueIn l 14 ∷ []
 
 -- the words of kinds 1 to k in force are the pending ones
 abbrev pub copied : ℕ → List ℕ → List ℕ
 copied zero l = l
-copied (suc k) l = set (copied k l) (9 + k) (wordAt l (24 + k))
+copied (suc k) l = set (copied k l) (9 + k) (wordAt l (25 + k))
 
--- the settings of these values come into force, with offset and limits given
-pub record TakenOver (l : List ℕ) (offset lower upper : ℤ) (m : List ℕ) : Type 0 where
-  pub axis : axisIn m ≡ record { active = Set (settingsFrom offset lower upper (firstValuesIn l)); pending = pendingIn l; motion = idled (motionIn l) }
+-- the settings of these values come into force, with those given that layouts carry in their own ways
+pub record TakenOver (l : List ℕ) (offset lower upper : ℤ) (option homing : ℕ) (m : List ℕ) : Type 0 where
+  pub axis :
+      axisIn m ≡ record { active = Set (settingsFrom offset lower upper option homing (firstValuesIn l)); pending = pendingIn l; motion = idled (motionIn l) }
   pub pending : PendingKept l m
   pub motion : InputsKept l m
 

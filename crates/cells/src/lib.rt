@@ -21,7 +21,7 @@ ghost use Rattle.cells.specs.Writes.{Cleared, Emptied, Begun, Appended, 
 
 // The lent words: motion, the settings in force, what is pending. Motion comes first: a Cortex-M0 reaches the first 32 words of an array in one
 // instruction, and a tick reads and writes motion throughout.
-pub type Lent = [u32; 38];
+pub type Lent = [u32; 39];
 
 const STATE: usize = 0;
 
@@ -39,7 +39,8 @@ const SWITCHES: usize = 6;
 
 const POSITION: usize = 7;
 
-// The data of the settings words that came into force, but offset and position limits, which stand whole; the first is 1, and 0 where none did.
+// The data of the settings words that came into force, but offset and position limits, which stand whole, and the option and homing torque, each in
+// a word of its own; the first is 1, and 0 where none did.
 const ACTIVE: usize = 8;
 
 const METHOD: usize = 9;
@@ -54,17 +55,19 @@ const OPTION: usize = 20;
 
 const RATED: usize = 21;
 
-// How many settings words are pending, and the first one's data.
-const COUNT: usize = 22;
+const HOMING: usize = 22;
 
-const VALUES: usize = 23;
+// How many settings words are pending, and the first one's data.
+const COUNT: usize = 23;
+
+const VALUES: usize = 24;
 
 // Kind 14's data.
-const TOPS: usize = 37;
+const TOPS: usize = 38;
 
 // By value an array tells its length; in a contract, a reference to it does not.
 fn lent(axis: Lent)
-    ensures { λ _. ⌜ length axis ≡ 38 ⌝ }
+    ensures { λ _. ⌜ length axis ≡ 39 ⌝ }
 {}
 
 // Whether settings are in force.
@@ -103,7 +106,7 @@ pub fn settings_in(axis: &Lent) -> Settings
     let lower = patterns::signed(axis[LOWER]);
     let upper = patterns::signed(axis[UPPER]);
     let values = active_values(axis);
-    decoder::decode_with(offset, lower, upper, values)
+    decoder::decode_with(offset, lower, upper, axis[OPTION], axis[HOMING], values)
 }
 
 pub fn method(axis: &Lent) -> u32
@@ -144,7 +147,6 @@ fn first_values(axis: &Lent) -> [u32; 14]
 {
     [
         axis[VALUES],
-        axis[24],
         axis[25],
         axis[26],
         axis[27],
@@ -157,10 +159,11 @@ fn first_values(axis: &Lent) -> [u32; 14]
         axis[34],
         axis[35],
         axis[36],
+        axis[37],
     ]
 }
 
-// Kind 14's, which has come in layout 2 alone.
+// Kind 14's, which layout 1 does not have.
 fn tops(axis: &Lent) -> u32
     ensures { λ r. ⌜ r ≡ valueIn (now (axis .entry)) 14 ⌝ }
 {
@@ -239,7 +242,7 @@ pub fn position(axis: &Lent) -> i32
 pub fn clear(axis: &mut Lent)
     ensures { λ _. ⌜ Cleared (now (axis .exit)) ⌝ }
 {
-    *axis = [0; 38];
+    *axis = [0; 39];
 }
 
 // Nothing is pending.
@@ -280,9 +283,10 @@ fn copy_values(axis: &mut Lent)
     }
 }
 
-// The settings of the values that are pending come into force, with offset and position limits given, and homing is idle (01: takeover).
-pub fn take_over(axis: &mut Lent, offset: i32, lower: i32, upper: i32)
-    ensures { λ _. ⌜ TakenOver (now (axis .entry)) offset lower upper (now (axis .exit)) ⌝ }
+// The settings of the values that are pending come into force, with those given that layouts carry in their own ways, and homing is idle (01:
+// takeover).
+pub fn take_over(axis: &mut Lent, offset: i32, lower: i32, upper: i32, option: u32, homing: u32)
+    ensures { λ _. ⌜ TakenOver (now (axis .entry)) offset lower upper option homing (now (axis .exit)) ⌝ }
 {
     lent(*axis);
     copy_values(axis);
@@ -290,6 +294,8 @@ pub fn take_over(axis: &mut Lent, offset: i32, lower: i32, upper: i32)
     axis[OFFSET] = counts::pattern(offset);
     axis[LOWER] = counts::pattern(lower);
     axis[UPPER] = counts::pattern(upper);
+    axis[OPTION] = option;
+    axis[HOMING] = homing;
     axis[PHASE] = homing::IDLE;
 }
 

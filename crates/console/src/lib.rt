@@ -174,7 +174,7 @@ fn print_usage() {
     );
     io::write_all(
         STDOUT_FILENO,
-        b"  layout LAYOUT LENGTH METHOD FAST SLOW OFFSET NUM DEN LOWER UPPER MAX P1 N1 P2 N2 OPTION RATED\n",
+        b"  layout LAYOUT LENGTH METHOD FAST SLOW OFFSET NUM DEN LOWER UPPER MAX P1 N1 P2 N2 OPTION RATED [HOMING]\n",
     );
     io::write_all(STDOUT_FILENO, b"  fresh\n");
     io::write_all(

@@ -31,5 +31,8 @@ abbrev pub bytesAt : List ℕ → Cursor → List ℕ
 bytesAt text c = bytesOf text (spanAt text c)
 
 -- no word is left
+abbrev pub atEnd : List ℕ → Cursor → Bool
+atEnd text c = eqb (spanAt text c .start) (length text)
+
 unfoldable pub lineEnd : List ℕ → Cursor → Cursor
-lineEnd text c = judgeOf c (spanAt text c) (eqb (spanAt text c .start) (length text)) End
+lineEnd text c = judgeOf c (spanAt text c) (atEnd text c) End

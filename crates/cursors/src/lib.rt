@@ -1,7 +1,7 @@
 // A place in a line's text, moved on word by word.
 use tokens::Span;
 ghost use mathlib.Core.Path.{_≡_};
-ghost use Rattle.cursors.specs.Cursor.{lineStart, acceptOf, refuseOf, judgeOf, lineEnd};
+ghost use Rattle.cursors.specs.Cursor.{lineStart, acceptOf, refuseOf, judgeOf, atEnd, lineEnd};
 
 // What a line was to have where it cannot be read further.
 pub enum Expected {
@@ -73,7 +73,15 @@ impl Cursor {
         }
     }
 
-    // No word is left.
+    // Whether no word is left.
+    pub fn at_end(self, text: &[u8]) -> bool
+        ensures { λ r. ⌜ r ≡ atEnd (now (text .entry)) self ⌝ }
+    {
+        let word = tokens::next(text, self.at);
+        word.start == text.len()
+    }
+
+    // Accepted where no word is left.
     pub fn end(self, text: &[u8]) -> Cursor
         ensures { λ r. ⌜ r ≡ lineEnd (now (text .entry)) self ⌝ }
     {

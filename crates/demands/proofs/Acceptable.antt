@@ -93,7 +93,7 @@ plain-answers es t s e =
     (λ (x : Active). Plain s t (tickUnder x a t .axis .motion) (tickUnder x a t .answer))
     (sym e)
     (record {
-      torque = torque-plain s r (t .set) (torqueOn t m) (wholeDemand (demandIn s t));
+      torque = torque-plain s r (m .mode) (t .set) (torqueOn t m) (wholeDemand (demandIn s t));
       speed = speed-plain s r (m .phase) (bitOf (t .control) 8);
       position = position-plain s r (m .home) (followedIn t m) (t .position);
     })
@@ -104,4 +104,5 @@ plain-data =
     record {
       layout1 = λ w top. ap (signed 28) (omega arith);
       layout2 = λ w top h. ap (signed 32) (omega arith);
+      layout3 = λ w top h. ap (signed 32) (omega arith);
     }

@@ -13,6 +13,7 @@ use Rattle.modes.specs.Modes.{isMode}
 use Rattle.commands.specs.Commands.{wholeDemand}
 use Rattle.homing.specs.Phase.{homedIn}
 use Rattle.homing.proofs.Simulation.{homing-iff}
+use Rattle.torque.specs.Bounded.{Bounded}
 use Rattle.torque.proofs.Within.{bounded, zero-when-off}
 use Rattle.status.specs.Statusword.{statuswordOf}
 use Rattle.status.proofs.Bits.{bit-8-homed, bit-12-homed}
@@ -72,10 +73,13 @@ module _ (a : Axis) (k : Known) (m : Matches a k) (t : Tick) where
     unfolding answeredIn answerIn
     judged =
         let flags = flagsOf s t (motionAfter s (a .motion) t) in
+        let torque = answerIn s t (motionAfter s (a .motion) t) .torque in
         record {
           number = refl;
-          bounded = bounded s (t .set) (torqueOn t (motionAfter s (a .motion) t)) (wholeDemand (demandIn s t));
-          zero-unless-live = λ h. rw (off h) (zero-when-off s (t .set) (wholeDemand (demandIn s t)));
+          bounded =
+              subst (λ (mode : Mode). Bounded s mode (t .set) torque) (after .mode)
+              (bounded s (newMode (a .motion) t) (t .set) (torqueOn t (motionAfter s (a .motion) t)) (wholeDemand (demandIn s t)));
+          zero-unless-live = λ h. rw (off h) (zero-when-off s (newMode (a .motion) t) (t .set) (wholeDemand (demandIn s t)));
           homed = through (bit-8-homed (newState s (a .motion) t) (newMode (a .motion) t) flags) homed-known;
           attained = λ h.
               through (ap (λ (mode : Mode). bitOf (statuswordOf (newState s (a .motion) t) mode flags) 12) (in-homing h) ∙ bit-12-homed (newState s (a .motion) t) flags)

@@ -30,7 +30,7 @@ InForceAcceptable = (es : List Event) (s : Settings) → axisOf es .active ≡ S
 
 -- an answer to a tick that leaves motion m, by the formulas with no guard
 pub record Plain (s : Settings) (t : Tick) (m : Motion) (a : Answer) : Type 0 where
-  pub torque : a .torque ≡ plainTorque s (t .set) (torqueOn t m) (wholeDemand (demandIn s t))
+  pub torque : a .torque ≡ plainTorque s (m .mode) (t .set) (torqueOn t m) (wholeDemand (demandIn s t))
   pub speed : a .speed ≡ plainSpeed s (m .phase) (bitOf (t .control) 8)
   pub position : a .position ≡ plainPosition s (m .home) (followedIn t m) (t .position)
 
@@ -40,8 +40,9 @@ PlainAnswers =
     (es : List Event) (t : Tick) (s : Settings) → axisOf es .active ≡ Set s
     → Plain s t (tickOf (axisOf es) t .axis .motion) (tickOf (axisOf es) t .answer)
 
--- "two's complement over 28 bits", and in layout 2 "32-bit signed": what a word carries is below 2 ^ 28, and four bits are below 2 ^ 4, so that a
+-- "two's complement over 28 bits", and in layouts 2 and 3 "32-bit signed": what a word carries is below 2 ^ 28, and four bits are below 2 ^ 4, so that a
 -- position is read with no guard
 pub record PlainData : Type 0 where
   pub layout1 : (w top : ℕ) → positionFrom 1 (dataOf w) top ≡ signed 28 (dataOf w)
   pub layout2 : (w top : ℕ) → top < 2 ^ 4 → positionFrom 2 (dataOf w) top ≡ signed 32 (dataOf w + top * 2 ^ 28)
+  pub layout3 : (w top : ℕ) → top < 2 ^ 4 → positionFrom 3 (dataOf w) top ≡ signed 32 (dataOf w + top * 2 ^ 28)

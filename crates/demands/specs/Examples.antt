@@ -1,6 +1,6 @@
 -- 01, "Rehearsed examples": each starred one as a list of settings words and ticks to the fresh axis, in one table; and a table of further
--- lists, one of layout 2 (`LongRails.antt`), and one of what the list itself says. The checker evaluates all four. What no answer shows of floats stands in
--- hybrid/specs/Examples.antt, the routes of every method in homing/proofs/Examples.antt.
+-- lists, one of layout 2 (`LongRails.antt`), one of layout 3 and the homing torque (`HomingTorque.antt`), and one of what the list itself says. The
+-- checker evaluates all five. What no answer shows of floats stands in hybrid/specs/Examples.antt, the routes of every method in homing/proofs/Examples.antt.
 -- Assumes nothing.
 use Prim.Native.Nat.{ℕ}
 use mathlib.Core.Path.{_≡_, refl}
@@ -23,7 +23,7 @@ use Rattle.settings.specs.Ranges.{positionsFit, inRange}
 use Rattle.words.specs.Word.{sameWords, latest}
 use Rattle.words.specs.Encode.{valuesOf, total, checksumOf, wordsFrom, wordsOf}
 use Rattle.words.specs.Decode.{positionFrom, settingsOf}
-use Rattle.kinds.specs.Fields.{fieldOk}
+use Rattle.kinds.specs.Fields.{optionWithHomingOk, fieldOk}
 use Rattle.writer.specs.Write.{writeVerdict}
 use Rattle.reader.specs.Read.{startRead, fieldRead, endVerdict, endRead, readOf}
 use Rattle.control.specs.Control.{controlCommandOf}
@@ -54,6 +54,7 @@ use Rattle.demands.specs.Known.{start as begun}
 use Rattle.demands.specs.Replies.{Reply, replies}
 use Rattle.demands.specs.Sheet.{words-S, settings-S, S-with}
 use Rattle.demands.specs.LongRails.{words-S-2, longRails}
+use Rattle.demands.specs.HomingTorque.{words-S-3, homingTorques}
 use Rattle.demands.specs.Lists.{off, HOM, Z, POT, NOT, inputs, still-tick, moving-tick, alarmed, ask, ask-in, hybrid, start, at, halted, released, S, with, enabling, enabled, enabled-with, after, number, torque, position, speed, status, alarm, sameCounts}
 
 abbrev homed-at-0 : List Event
@@ -203,6 +204,6 @@ readings =
     ∷ not (started (known (enabled ++ start 100 off ∷ still-tick 0x0000 Rest ∷ with 1 35) .since))
     ∷ []
 
-holds : (all table ≡ true) × (all further ≡ true) × (all longRails ≡ true) × (all readings ≡ true)
-unfolding table further longRails readings words-S words-S-2 settings-S modulo signed wrapped fits floorDiv clamped methodOk positionsFit inRange gearedOf inReach limitsVerdict verdictOf acceptable writeVerdict valuesOf total checksumOf wordsFrom wordsOf latest positionFrom settingsOf fieldOk startRead fieldRead endVerdict endRead readOf controlCommandOf nextState leastSet alarmNumberOf quotientOf sizeOf negative wholePart ofBits sub mul div ofInt eventCounts limitCounts rowOf mainRoute turnRoute skipRoute skips startRoute steps.runningOf steps.startOf signedOf capOf torqueOf countOf statuswordOf answerIn answeredIn wordOf newPhase tickOf completedBy withBit31
-holds = (refl, refl, refl, refl)
+holds : (all table ≡ true) × (all further ≡ true) × (all longRails ≡ true) × (all homingTorques ≡ true) × (all readings ≡ true)
+unfolding table further longRails homingTorques readings words-S words-S-2 words-S-3 settings-S modulo signed wrapped fits floorDiv clamped methodOk positionsFit inRange gearedOf inReach limitsVerdict verdictOf acceptable writeVerdict valuesOf total checksumOf wordsFrom wordsOf latest positionFrom settingsOf optionWithHomingOk fieldOk startRead fieldRead endVerdict endRead readOf controlCommandOf nextState leastSet alarmNumberOf quotientOf sizeOf negative wholePart ofBits sub mul div ofInt eventCounts limitCounts rowOf mainRoute turnRoute skipRoute skips startRoute steps.runningOf steps.startOf signedOf capOf torqueOf countOf statuswordOf answerIn answeredIn wordOf newPhase tickOf completedBy withBit31
+holds = (refl, refl, refl, refl, refl)

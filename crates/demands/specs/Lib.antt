@@ -8,4 +8,5 @@ pub mod Whole
 pub mod Sheet
 pub mod Lists
 pub mod LongRails
+pub mod HomingTorque
 pub mod Examples

@@ -12,7 +12,7 @@ use Rattle.settings.specs.declared.Settings.{Settings}
 use Rattle.settings.specs.Refusal.{verdictNumber}
 use Rattle.words.specs.Word.{sameWords}
 use Rattle.words.specs.Encode.{wordsOf}
-use Rattle.words.specs.Decode.{settingsFrom}
+use Rattle.words.specs.Decode.{optionFrom, homingFrom, settingsFrom}
 use Rattle.writer.specs.Write.{writeVerdict, written}
 use Rattle.commands.specs.declared.Command.the-variants.{Position}
 use Rattle.rules.specs.Axis.{Active, Nothing, Set}
@@ -29,8 +29,9 @@ words-S-2 =
     ∷ 0xA0960320 ∷ 0xB04B012C ∷ 0xC0000002 ∷ 0xD00007D0 ∷ 0xE00000F0 ∷ 0xF0E1631C ∷ []
 
 -- S with other offset and limits, and other data of some kinds
-abbrev railed : ℤ → ℤ → ℤ → List (ℕ × ℕ) → Settings
-railed offset lower upper changes = settingsFrom offset lower upper (data-with changes)
+abbrev pub railed : ℤ → ℤ → ℤ → List (ℕ × ℕ) → Settings
+railed offset lower upper changes =
+    let d = data-with changes in settingsFrom offset lower upper (optionFrom d) (homingFrom d) d
 
 -- a gear of 1 to 4
 abbrev geared : List (ℕ × ℕ)
@@ -50,21 +51,24 @@ homed-under s = map word (wordsOf 2 s) ++ enabling ++ start 10 HOM ∷ at 0 off 
 abbrev follows : Settings → ℤ → List ℤ
 follows s target = map position (after (homed-under s) (ask (Position target (pos 0)) ∷ []))
 
--- the settings in force, as words of layout 2, which holds all
-abbrev in-force : Active → List ℕ
+-- the settings in force, as words of layout 3, which holds all acceptable ones
+abbrev pub in-force : Active → List ℕ
 in-force Nothing = []
-in-force (Set s) = wordsOf 2 s
+in-force (Set s) = wordsOf 3 s
 
--- after these words S is in force: by the axis, and by the list alone
+-- after some words these settings are in force: by the axis, and by the list alone
+abbrev pub brings : List ℕ → Settings → Bool
+brings ws s = sameWords (in-force (axisOf (map word ws) .active)) (wordsOf 3 s) && sameWords (in-force (known (map word ws) .settings)) (wordsOf 3 s)
+
 abbrev in-force-S : List ℕ → Bool
-in-force-S ws = sameWords (in-force (axisOf (map word ws) .active)) words-S-2 && sameWords (in-force (known (map word ws) .settings)) words-S-2
+in-force-S ws = brings ws settings-S
 
 -- the numbers that some words are answered with
-abbrev numbers : List ℕ → List ℕ
+abbrev pub numbers : List ℕ → List ℕ
 numbers ws = map number (replies (map word ws))
 
 -- the number that the writer gives, on so many words
-abbrev writes : ℕ → Settings → ℕ → ℕ
+abbrev pub writes : ℕ → Settings → ℕ → ℕ
 writes layout s length = verdictNumber (writeVerdict layout s (replicate length 0))
 
 -- one beyond 28 bits: the offset either way, the lower limit below, the upper above; and all three at their edges
@@ -89,8 +93,8 @@ longRails =
     sameWords (wordsOf 2 settings-S) words-S-2
     ∷ sameWords (numbers words-S-2) (replicate 16 0)
     ∷ in-force-S words-S-2
-    -- start data 0 or 3: 2
-    ∷ sameWords (numbers (0 ∷ 3 ∷ [])) (2 ∷ 2 ∷ [])
+    -- start data 0 or 4: 2
+    ∷ sameWords (numbers (0 ∷ 4 ∷ [])) (2 ∷ 2 ∷ [])
     -- kind 14 with bit 12 or bit 27 set: 3, and nothing is pending then
     ∷ sameWords (numbers (take 14 words-S-2 ++ 0xE0001000 ∷ 0xF0E1722C ∷ [])) (replicate 14 0 ++ 3 ∷ 1 ∷ [])
     ∷ sameWords (numbers (take 14 words-S-2 ++ 0xE8000000 ∷ [])) (replicate 14 0 ++ 3 ∷ [])
@@ -99,7 +103,7 @@ longRails =
     ∷ sameWords (numbers (take 14 words-S-2 ++ 0xF0E1622C ∷ [])) (replicate 14 0 ++ 1 ∷ [])
     -- a sum that leaves kind 14 out: 4
     ∷ sameWords (numbers (take 15 words-S-2 ++ 0xF0E1622C ∷ [])) (replicate 15 0 ++ 4 ∷ [])
-    -- a start word of the other layout halfway begins afresh, either way; a stray start word of layout 2 before a sheet of layout 1 is forgotten
+    -- a start word of another layout halfway begins afresh, either way; a stray start word of layout 2 before a sheet of layout 1 is forgotten
     ∷ in-force-S (take 13 words-S ++ words-S-2)
     ∷ in-force-S (take 15 words-S-2 ++ words-S)
     ∷ in-force-S (2 ∷ words-S)
@@ -120,10 +124,10 @@ longRails =
     ∷ sameWords (written 2 settings-S (replicate 15 7)) (replicate 15 7)
     -- 10: from 2^27 on, and below −2^27, in layout 1 alone
     ∷ sameWords (map (λ s. writes 1 s 16) beyond) (replicate 4 10)
-    ∷ sameWords (map (λ s. writes 2 s 16) beyond) (replicate 4 0)
+    ∷ sameWords (map (λ s. writes 2 s 16) beyond ++ map (λ s. writes 3 s 16) beyond) (replicate 8 0)
     ∷ sameWords (map (λ s. writes 1 s 16) edges) (0 ∷ 0 ∷ [])
-    -- the order of the tests: each of these meets what comes after it too, where its layout can
-    ∷ sameWords (writes 0 crossed 0 ∷ writes 3 crossed 0 ∷ writes (2 ^ 32 - 1) crossed 16 ∷ []) (2 ∷ 2 ∷ 2 ∷ [])
+    -- the order of the tests: each of these meets what comes after it too, where its layout can, but for 11 (`HomingTorque.antt`)
+    ∷ sameWords (writes 0 crossed 0 ∷ writes 4 crossed 0 ∷ writes (2 ^ 32 - 1) crossed 16 ∷ []) (2 ∷ 2 ∷ 2 ∷ [])
     ∷ sameWords (writes 1 crossed 14 ∷ writes 1 crossed 15 ∷ writes 2 crossed 15 ∷ writes 2 crossed 16 ∷ []) (9 ∷ 10 ∷ 9 ∷ 3 ∷ [])
     ∷ eqb (writes 2 (railed (pos 0) (pos (2 ^ 31 - 1)) (pos 0) []) 16) 5
     ∷ []

@@ -1,4 +1,4 @@
--- 01, "Rehearsed examples": sheet S, its fifteen words, in layout 1, and the settings that they carry.
+-- 01, "Rehearsed examples": sheet S, its fifteen words, in layout 1, and the settings that they carry, with the maximum as homing torque.
 -- Assumes nothing.
 use Prim.Native.Nat.{ℕ}
 use mathlib.Core.List.{List, [], _∷_, map}
@@ -31,6 +31,7 @@ settings-S =
       negative2 = 300;
       option = 2;
       rated = 2000;
+      homing = 1000;
     }
 
 -- S with other data of some kinds, and the sum that goes with it

@@ -9,6 +9,7 @@ use lib.ListN.{length, take}
 use Rattle.settings.specs.declared.Settings.{Settings}
 use Rattle.settings.specs.declared.Verdict.the-variants.{Accepted}
 use Rattle.settings.specs.Refusal.{verdictNumber}
+use Rattle.layouts.specs.Layout.{isLayout, carriesHoming}
 use Rattle.checks.specs.Check.{sendable}
 use Rattle.words.specs.Encode.{wordsOf}
 use Rattle.writer.specs.Write.{needed, writeVerdict, written}
@@ -76,14 +77,17 @@ WrittenTrip =
     (a : Axis) (layout : ℕ) (s : Settings) (buffer : List ℕ) (es : List Event) (w : ℕ) → writeVerdict layout s buffer ≡ Accepted
     → wordsIn es ++ w ∷ [] ≡ take (needed layout) (written layout s buffer) → NotLive a es → TakesOver a s es w
 
--- 02, (iv): "writing it in layout 2 and reading it loses nothing": the writer accepts a layout 1 sheet in layout 2, and what it fills the buffer with has the
--- same settings taken over, in every field
-pub record Rewrites (a : Axis) (s : Settings) (buffer : List ℕ) : Type 0 where
-  pub accepted : writeVerdict 2 s buffer ≡ Accepted
-  pub taken-over : (es : List Event) (w : ℕ) → wordsIn es ++ w ∷ [] ≡ take (needed 2) (written 2 s buffer) → NotLive a es → TakesOver a s es w
+-- 02, (iv): "writing it in layout 2 and reading it loses nothing": the writer accepts the settings of one layout in each later one, and what it fills the
+-- buffer with has the same settings taken over, in every field
+pub record Rewrites (a : Axis) (layout : ℕ) (s : Settings) (buffer : List ℕ) : Type 0 where
+  pub accepted : writeVerdict layout s buffer ≡ Accepted
+  pub taken-over :
+      (es : List Event) (w : ℕ) → wordsIn es ++ w ∷ [] ≡ take (needed layout) (written layout s buffer) → NotLive a es → TakesOver a s es w
 
 abbrev pub RewrittenTrip : Type 0
-RewrittenTrip = (a : Axis) (s : Settings) (buffer : List ℕ) → sendable 1 s ≡ true → needed 2 ≤ length buffer → Rewrites a s buffer
+RewrittenTrip =
+    (a : Axis) (l m : ℕ) (s : Settings) (buffer : List ℕ) → sendable l s ≡ true → l ≤ m → isLayout m ≡ true → needed m ≤ length buffer
+    → Rewrites a m s buffer
 
 -- a word of a list that took settings over: the drive was not live when it came, the words of those settings end at it, ticks aside, in a layout that
 -- holds them, and then they were in force
@@ -102,3 +106,8 @@ pub record Came (s : Settings) (es : List Event) : Type 0 where
 -- `roundtrip/specs/Unique.antt`).
 abbrev pub CameByTheirWords : Type 0
 CameByTheirWords = (es : List Event) (s : Settings) → axisOf es .active ≡ Set s → Came s es
+
+-- 02, (v): "Layouts 1 and 2 read as homing torque equal to the maximum": so it is of settings that came by words of these. That the reader reads so is
+-- `OlderReadMaximum`, `roundtrip/specs/Unique.antt`
+abbrev pub CameWithMaximum : Type 0
+CameWithMaximum = (es : List Event) (s : Settings) (c : Came s es) → carriesHoming (c .layout) ≡ false → s .homing ≡ s .maximum

@@ -46,7 +46,7 @@ pub extern "C" fn axis_tick(
 
 // The writer: settings as the words of a layout to the front of the buffer. Returns 0, or the refusal's number.
 #[no_mangle]
-pub extern "C" fn axis_write(layout: u32, fields: &[u32; 15], buffer: &mut [u32]) -> u32
+pub extern "C" fn axis_write(layout: u32, fields: &[u32; 16], buffer: &mut [u32]) -> u32
     ensures verdict { λ r. ⌜ r ≡ verdictNumber (writeVerdict layout (settingsOfFields (now (fields .entry))) (now (buffer .entry))) ⌝ }
     ensures words { λ _. ⌜ now (buffer .exit) ≡ written layout (settingsOfFields (now (fields .entry))) (now (buffer .entry)) ⌝ }
 {

@@ -33,6 +33,7 @@ sheet n d from low high =
       negative2 = 0;
       option = 2;
       rated = 1;
+      homing = 0;
     }
 
 -- with limits that no 32-bit target is beyond

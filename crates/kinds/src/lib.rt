@@ -1,6 +1,6 @@
-// What data each kind of settings word may carry.
+// What data each kind of settings word may carry in a layout.
 ghost use mathlib.Core.Path.{_≡_};
-ghost use Rattle.kinds.specs.Fields.{torqueLimitsOk, fieldOk};
+ghost use Rattle.kinds.specs.Fields.{torqueLimitsOk, optionDataOk, fieldOk};
 
 fn torque_limits_ok(value: u32) -> bool
     ensures { λ r. ⌜ r ≡ torqueLimitsOk value ⌝ }
@@ -8,8 +8,19 @@ fn torque_limits_ok(value: u32) -> bool
     ranges::torque_ok(value % 0x4000) & ranges::torque_ok(value / 0x4000)
 }
 
-pub fn field_ok(kind: u32, value: u32) -> bool
-    ensures { λ r. ⌜ r ≡ fieldOk kind value ⌝ }
+// The option, and in layout 3 above its 8 bits the homing torque. The highest bits are zero where that is at most 3000.
+fn option_data_ok(layout: u32, value: u32) -> bool
+    ensures { λ r. ⌜ r ≡ optionDataOk layout value ⌝ }
+{
+    if layouts::carries_homing(layout) {
+        ranges::option_ok(value % 0x100) & ranges::torque_ok(value / 0x100)
+    } else {
+        ranges::option_ok(value)
+    }
+}
+
+pub fn field_ok(layout: u32, kind: u32, value: u32) -> bool
+    ensures { λ r. ⌜ r ≡ fieldOk layout kind value ⌝ }
 {
     match kind {
         0 => layouts::is_layout(value),
@@ -24,7 +35,7 @@ pub fn field_ok(kind: u32, value: u32) -> bool
         9 => ranges::torque_ok(value),
         10 => torque_limits_ok(value),
         11 => torque_limits_ok(value),
-        12 => ranges::option_ok(value),
+        12 => option_data_ok(layout, value),
         13 => ranges::rated_ok(value),
         14 => value < 0x1000,
         _ => false,

@@ -20,11 +20,11 @@ tradeWord n =
     (cond (eqb n 6) (ascii "  out of reach\n")
     (cond (eqb n 7) (ascii "  axis live\n")
     (cond (eqb n 8) (ascii "  no sheet\n")
-    (cond (eqb n 9) (ascii "  short buffer\n") (ascii "  long value\n"))))))))))
+    (cond (eqb n 9) (ascii "  short buffer\n") (cond (eqb n 10) (ascii "  long value\n") (ascii "  homing torque lost\n")))))))))))
 
 -- the row of a number in the code's list of trade words
 abbrev pub tradeRow : ℕ → ℕ
-tradeRow n = min n 10
+tradeRow n = min n 11
 
 abbrev pub freshText : List ℕ
 freshText = ascii "fresh\n"

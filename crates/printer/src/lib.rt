@@ -8,7 +8,7 @@ ghost use Rattle.printer.specs.Texts.{tradeRow, tradeWord, freshText, wo
 fn trade_row(number: u32) -> usize
     ensures { λ r. ⌜ r ≡ tradeRow number ⌝ }
 {
-    if number < 10 { number as usize } else { 10 }
+    if number < 11 { number as usize } else { 11 }
 }
 
 // What a number other than 0 is called in the trade (01, 02), after two spaces, and the line's end.
@@ -18,7 +18,7 @@ fn trade_word(out: &mut [u8], at: usize, number: u32) -> usize
     phrases::nth(
         out,
         at,
-        b"\n  out of turn\n  strange layout\n  out of range\n  bad sum\n  stops crossed\n  out of reach\n  axis live\n  no sheet\n  short buffer\n  long value\n",
+        b"\n  out of turn\n  strange layout\n  out of range\n  bad sum\n  stops crossed\n  out of reach\n  axis live\n  no sheet\n  short buffer\n  long value\n  homing torque lost\n",
         trade_row(number),
     )
 }

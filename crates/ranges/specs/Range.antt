@@ -17,7 +17,7 @@ speedOk speed = between 1 (2 ^ 28 - 1) speed
 abbrev pub ratioOk : ℕ → Bool
 ratioOk ratio = between 1 (2 ^ 20) ratio
 
--- "maximum torque, 0 to 3000", and each limit of the two sets
+-- "maximum torque, 0 to 3000", each limit of the two sets, and 02, (v): "the homing torque, 0 to 3000"
 abbrev pub torqueOk : ℕ → Bool
 torqueOk torque = leb torque 3000
 

@@ -7,7 +7,7 @@ use native.Mathlib.Omega.{arith}
 use borrow.Author.Tests.{eqb-true, eqb-false}
 use lib.Dec.{eqb}
 use Rattle.settings.specs.declared.Refusal.{Refusal}
-use Rattle.settings.specs.declared.Refusal.the-variants.{OutOfSequence, UnknownLayout, OutOfRange, ChecksumMismatch, LimitsCrossed, OutOfReach, DriveActive, NoSettings, BufferTooShort, LongValue}
+use Rattle.settings.specs.declared.Refusal.the-variants.{OutOfSequence, UnknownLayout, OutOfRange, ChecksumMismatch, LimitsCrossed, OutOfReach, DriveActive, NoSettings, BufferTooShort, LongValue, HomingTorqueLost}
 use Rattle.settings.specs.declared.Verdict.{Verdict}
 use Rattle.settings.specs.declared.Verdict.the-variants.{Accepted, Refused}
 use Rattle.settings.specs.declared.Settings.{Settings}
@@ -24,7 +24,7 @@ use Rattle.reader.proofs.Steps.{read-start, read-out, read-end, read-fi
 
 pub data AcceptedBy (p : Pending) (w : ℕ) : Type 0 where
   begins : w ≡ dataOf w → isLayout (dataOf w) ≡ true → readOf p w ≡ stored (started (dataOf w)) → AcceptedBy p w
-  keeps : kindOf w ≡ p .count → p .count < size (layoutIn p) → (kindOf w ≡ 0 → ⊥) → fieldOk (kindOf w) (dataOf w) ≡ true
+  keeps : kindOf w ≡ p .count → p .count < size (layoutIn p) → (kindOf w ≡ 0 → ⊥) → fieldOk (layoutIn p) (kindOf w) (dataOf w) ≡ true
       → readOf p w ≡ stored (kept p (kindOf w) (dataOf w)) → AcceptedBy p w
   closes : size (layoutIn p) ≤ p .count → w ≡ packed 15 (checksumOf (p .values)) → limitsVerdict (settingsOf (p .values)) ≡ Accepted
       → readOf p w ≡ complete (settingsOf (p .values)) → AcceptedBy p w
@@ -46,6 +46,7 @@ some-number DriveActive e = omega arith
 some-number NoSettings e = omega arith
 some-number BufferTooShort e = omega arith
 some-number LongValue e = omega arith
+some-number HomingTorqueLost e = omega arith
 
 -- the number of a reading
 abbrev numbered : Reading → ℕ
@@ -59,7 +60,7 @@ module _ (p : Pending) (w : ℕ) where
   s = settingsOf (p .values)
 
   start : kindOf w ≡ 0 → ReadBy p w
-  unfolding startRead fieldOk
+  unfolding startRead
   start k = go (isLayout (dataOf w)) refl (read-start p w k)
     where
       go : (a : Bool) → isLayout (dataOf w) ≡ a → readOf p w ≡ cond a (stored (started (dataOf w))) (refused UnknownLayout) → ReadBy p w
@@ -68,9 +69,9 @@ module _ (p : Pending) (w : ℕ) where
 
   field : kindOf w ≡ dueKind p → (kindOf w ≡ 0 → ⊥) → (kindOf w ≡ 15 → ⊥) → ReadBy p w
   unfolding fieldRead
-  field d n f = go (fieldOk (kindOf w) (dataOf w)) refl (read-field p w d n f)
+  field d n f = go (fieldOk (layoutIn p) (kindOf w) (dataOf w)) refl (read-field p w d n f)
     where
-      go : (a : Bool) → fieldOk (kindOf w) (dataOf w) ≡ a → readOf p w ≡ cond a (stored (kept p (kindOf w) (dataOf w))) (refused OutOfRange) → ReadBy p w
+      go : (a : Bool) → fieldOk (layoutIn p) (kindOf w) (dataOf w) ≡ a → readOf p w ≡ cond a (stored (kept p (kindOf w) (dataOf w))) (refused OutOfRange) → ReadBy p w
       go true h e = let k = due-field p (kindOf w) d f in accepted (keeps (k .0) (k .1) n h e)
       go false h e = refuses OutOfRange e
 

@@ -20,7 +20,7 @@ use Rattle.words.specs.Encode.{checksumOf}
 use Rattle.words.specs.Decode.{settingsOf}
 use Rattle.reader.specs.Pending.{Pending}
 use Rattle.kinds.specs.Fields.{fieldOk}
-use Rattle.reader.specs.Read.{refused, stored, started, kept, outOfSequence, startRead, fieldRead, judged, endVerdict, endRead, readOf, outcomeNumber}
+use Rattle.reader.specs.Read.{layoutIn, refused, stored, started, kept, outOfSequence, startRead, fieldRead, judged, endVerdict, endRead, readOf, outcomeNumber}
 use Rattle.reader.specs.Cases.{isStart, isEnd, testsOf, Numbers}
 
 judged-number : (s : Settings) (v : Verdict) → outcomeNumber (judged s v .outcome) ≡ verdictNumber v
@@ -41,7 +41,7 @@ module _ (p : Pending) (w : ℕ) where
       go false = refl
 
   read-number : outcomeNumber (readOf p w .outcome) ≡ firstOf (testsOf p w)
-  unfolding readOf startRead fieldRead fieldOk
+  unfolding readOf startRead fieldRead
   read-number = go (outOfSequence p w) (isStart w) refl (isEnd w) refl
     where
       start : (a : Bool) → outcomeNumber (cond a (stored (started (dataOf w))) (refused UnknownLayout) .outcome) ≡ cond (not a) 2 0
@@ -56,7 +56,7 @@ module _ (p : Pending) (w : ℕ) where
           → outcomeNumber (cond o (refused OutOfSequence) (cond k (startRead (dataOf w)) (cond e (endRead p (dataOf w)) (fieldRead p (kindOf w) (dataOf w)))) .outcome)
           ≡ cond o 1
           (cond (k && not (isLayout (dataOf w))) 2
-          (cond (not k && not e && not (fieldOk (kindOf w) (dataOf w))) 3
+          (cond (not k && not e && not (fieldOk (layoutIn p) (kindOf w) (dataOf w))) 3
           (cond (e && not (eqb (dataOf w) (checksumOf (p .values)))) 4
           (cond (e && checks.limitsCrossed s) 5
           (cond (e && checks.outOfReach s) 6 0)))))
@@ -64,7 +64,7 @@ module _ (p : Pending) (w : ℕ) where
       go false true h true i = absurd (omega (arith, eqb-true (kindOf w) 0 h, eqb-true (kindOf w) 15 i))
       go false true h false i = start (isLayout (dataOf w))
       go false false h true i = end-number
-      go false false h false i = field (fieldOk (kindOf w) (dataOf w))
+      go false false h false i = field (fieldOk (layoutIn p) (kindOf w) (dataOf w))
 
 pub numbers : Numbers
 numbers p w = read-number p w

@@ -1,4 +1,4 @@
--- The cases in which a word is refused, each as 01's table and 02, (iv), have it, and the order of their tests; 1 is in `Read.antt`.
+-- The cases in which a word is refused, each as 01's table and 02, (iv) and (v), have it, and the order of their tests; 1 is in `Read.antt`.
 -- Assumes nothing.
 use Prim.Native.Nat.{ℕ}
 use mathlib.Core.Bool.{Bool, not, _&&_}
@@ -13,7 +13,7 @@ use Rattle.words.specs.Encode.{checksumOf}
 use Rattle.words.specs.Decode.{settingsOf}
 use Rattle.reader.specs.Pending.{Pending}
 use Rattle.kinds.specs.Fields.{fieldOk}
-use Rattle.reader.specs.Read.{outOfSequence, readOf, outcomeNumber}
+use Rattle.reader.specs.Read.{layoutIn, outOfSequence, readOf, outcomeNumber}
 
 abbrev pub isStart : ℕ → Bool
 isStart w = eqb (kindOf w) 0
@@ -26,8 +26,8 @@ abbrev pub unknownLayout : ℕ → Bool
 unknownLayout w = isStart w && not (isLayout (dataOf w))
 
 -- 3: "data outside its field", of a word between start and end
-abbrev pub outOfRange : ℕ → Bool
-outOfRange w = not (isStart w) && not (isEnd w) && not (fieldOk (kindOf w) (dataOf w))
+abbrev pub outOfRange : Pending → ℕ → Bool
+outOfRange p w = not (isStart w) && not (isEnd w) && not (fieldOk (layoutIn p) (kindOf w) (dataOf w))
 
 -- 4: "end word's data differs from the sum"
 abbrev pub checksumMismatch : Pending → ℕ → Bool
@@ -45,7 +45,7 @@ abbrev pub testsOf : Pending → ℕ → List Test
 testsOf p w =
     test (outOfSequence p w) 1
     ∷ test (unknownLayout w) 2
-    ∷ test (outOfRange w) 3
+    ∷ test (outOfRange p w) 3
     ∷ test (checksumMismatch p w) 4
     ∷ test (limitsCrossed p w) 5
     ∷ test (outOfReach p w) 6

@@ -1,4 +1,4 @@
--- 01, "Refused words", and 02, (iv): what one settings word does to the pending settings (01: the unfinished sheet).
+-- 01, "Refused words", and 02, (iv) and (v): what one settings word does to the pending settings (01: the unfinished sheet).
 -- Assumes nothing.
 use Prim.Native.Nat.{ℕ, _+_}
 use mathlib.Core.Bool.{Bool, cond, not, _&&_}
@@ -12,7 +12,7 @@ use Rattle.settings.specs.declared.Verdict.{Verdict}
 use Rattle.settings.specs.declared.Verdict.the-variants.{Accepted}
 use Rattle.settings.specs.declared.Verdict.the-variants as verdict
 use Rattle.settings.specs.Refusal.{numberOf}
-use Rattle.layouts.specs.Layout.{size}
+use Rattle.layouts.specs.Layout.{isLayout, size}
 use Rattle.checks.specs.Check.{limitsVerdict}
 use Rattle.reader.specs.Pending.{Pending, Outcome, Refused, Stored, Complete, Reading}
 use Rattle.words.specs.Word.{kindOf, dataOf}
@@ -56,15 +56,15 @@ outOfSequence p w = not (eqb (kindOf w) (dueKind p)) && not (eqb (kindOf w) 0)
 
 -- "A start word always begins afresh, also halfway." 2: "A layout nobody defined"
 unfoldable pub startRead : ℕ → Reading
-startRead x = cond (fieldOk 0 x) (stored (started x)) (refused UnknownLayout)
+startRead x = cond (isLayout x) (stored (started x)) (refused UnknownLayout)
 
 -- one more word's data
 abbrev pub kept : Pending → ℕ → ℕ → Pending
 kept p kind x = record { count = kind + 1; values = set (p .values) kind x }
 
--- 3: "data outside its field"
+-- 3: "data outside its field", by the layout that has begun
 unfoldable pub fieldRead : Pending → ℕ → ℕ → Reading
-fieldRead p kind x = cond (fieldOk kind x) (stored (kept p kind x)) (refused OutOfRange)
+fieldRead p kind x = cond (fieldOk (layoutIn p) kind x) (stored (kept p kind x)) (refused OutOfRange)
 
 -- by what the end word meets: 4, 5, 6 or nothing
 abbrev pub judged : Settings → Verdict → Reading

@@ -95,7 +95,7 @@ answerWords a =
 abbrev pub sevenOf : List ℕ → List ℕ
 sevenOf l = getD l 0 0 ∷ getD l 1 0 ∷ getD l 2 0 ∷ getD l 3 0 ∷ getD l 4 0 ∷ getD l 5 0 ∷ getD l 6 0 ∷ []
 
--- fifteen fields in the order of the struct
+-- sixteen fields in the order of the struct
 unfoldable pub settingsOfFields : List ℕ → Settings
 settingsOfFields f =
     record {
@@ -114,4 +114,5 @@ settingsOfFields f =
       negative2 = wordAt f 12;
       option = wordAt f 13;
       rated = wordAt f 14;
+      homing = wordAt f 15;
     }

@@ -153,7 +153,7 @@ pub fn put_answer(out: &mut [u32; 7], a: Answer)
     put_words(out, answer_words(a));
 }
 
-// Settings from their fifteen fields, in the order of the struct.
+// Settings from their sixteen fields, in the order of the struct.
 pub fn settings_of_fields(f: &[u32]) -> Settings
     ensures { λ r. ⌜ r ≡ settingsOfFields (now (f .entry)) ⌝ }
 {
@@ -173,5 +173,6 @@ pub fn settings_of_fields(f: &[u32]) -> Settings
         negative2: word(f, 12),
         option: word(f, 13),
         rated: word(f, 14),
+        homing: word(f, 15),
     }
 }

@@ -1,15 +1,19 @@
 -- Words that are read into settings, a start word among them, are from the latest one on those settings' words.
 -- The idea: a start word forgets what was pending, so that the words might as well have come first.
 -- Assumes nothing.
-use Prim.Native.Nat.{ℕ}
+use Prim.Native.Nat.{ℕ, _≤_}
 use mathlib.Core.Path.{_≡_, refl, sym, ap, _∙_, subst}
-use mathlib.Core.Bool.{Bool, true, false, cond}
+use mathlib.Core.Bool.{Bool, true, false, cond, _&&_, _||_}
 use mathlib.Core.List.{List, [], _∷_, _++_, nil≢cons}
 use native.Mathlib.Omega.{arith}
-use borrow.Author.Tests.{eqb-true, ne-eqb}
-use lib.Dec.{eqb}
+use borrow.Author.Tests.{eqb-true, eqb-false, ne-eqb, leb-true}
+use lib.Dec.{eqb, leb}
 use Rattle.settings.specs.declared.Settings.{Settings}
-use Rattle.checks.proofs.Sends.{sends, sendable-of, positions-32}
+use Rattle.settings.specs.Ranges.{positionsFit}
+use Rattle.settings.proofs.Within.{both}
+use Rattle.layouts.specs.Layout.{isLayout, width, carriesHoming, homingIsMaximum}
+use Rattle.checks.specs.Check.{sendable}
+use Rattle.checks.proofs.Sends.{sends, positions-32}
 use Rattle.words.specs.Word.{kindOf, orElse, latest}
 use Rattle.words.specs.Encode.{checksumOf, wordsOf}
 use Rattle.words.specs.Decode.{layoutOf}
@@ -19,7 +23,7 @@ use Rattle.reader.proofs.Accepted.{ReadBy, refuses, accepted, begins, keeps, cl
 use Rattle.reader.proofs.Steps.{read-start}
 use Rattle.roundtrip.specs.ReadInto.{ReadInto, last, more}
 use Rattle.roundtrip.specs.Stream.{pendingFrom, pendingAfter}
-use Rattle.roundtrip.specs.Unique.{OneList, Layout2Holds, Rewritten}
+use Rattle.roundtrip.specs.Unique.{OneList, HeldBy, LayoutsHold, OlderReadMaximum, Rewritten}
 use Rattle.roundtrip.proofs.There.{there}
 use Rattle.roundtrip.proofs.Once.{from-start, ends-latest}
 use Rattle.roundtrip.proofs.Completed.{completed}
@@ -89,9 +93,45 @@ one-list p ws s r n =
     let tells : layoutOf (latest ws) ≡ l = ap layoutOf (words ∙ from-start l s) ∙ omega arith in
     rw tells (words, c .sound)
 
--- settings in range fit 32 bits
-pub layout-2-holds : Layout2Holds
-layout-2-holds s e = sendable-of 2 s (record { is-layout = refl; held = positions-32 s e; good = e })
+pub older-read-maximum : OlderReadMaximum
+older-read-maximum p ws s r n c =
+    let l = layoutOf (latest ws) in
+    let held = sends l s (one-list p ws s r n .1) .held in
+    let carried = both (positionsFit (width l) s) (carriesHoming l || homingIsMaximum s) held .1 in
+    eqb-true (s .homing) (s .maximum) (rw c at carried)
+
+-- 32 bits hold all that is acceptable
+pub layouts-hold : LayoutsHold
+layouts-hold s e =
+    let wide = positions-32 s e in
+    record { layout-1 = rw e (go (positionsFit 28 s) (homingIsMaximum s)); layout-2 = rw (e, wide) (alone (homingIsMaximum s)); layout-3 = rw (e, wide); no-other = λ l k. rw k }
+  where
+    alone : (m : Bool) → m && true ≡ m
+    alone true = refl
+    alone false = refl
+
+    go : (f m : Bool) → f && m && true ≡ m && f
+    go true true = refl
+    go true false = refl
+    go false true = refl
+    go false false = refl
+
+-- what a layout holds, each later one does
+pub later-sends : (l m : ℕ) (s : Settings) → sendable l s ≡ true → l ≤ m → isLayout m ≡ true → sendable m s ≡ true
+later-sends l m s e h k = go (eqb m 3) refl (eqb l m) refl
+  where
+    held : HeldBy s
+    held = layouts-hold s (sends l s e .good)
+
+    go : (a : Bool) → eqb m 3 ≡ a → (b : Bool) → eqb l m ≡ b → sendable m s ≡ true
+    go true p b q = rw (eqb-true m 3 p) (held .layout-3)
+    go false p true q = subst (λ (j : ℕ). sendable j s ≡ true) (eqb-true l m q) e
+    go false p false q =
+        let above = leb-true m 3 (both (leb 1 m) (leb m 3) k .1) in
+        let least = leb-true 1 l (both (leb 1 l) (leb l 3) (sends l s e .is-layout) .0) in
+        let two : m ≡ 2 = omega (arith, eqb-false m 3 p, eqb-false l m q) in
+        let one : l ≡ 1 = omega (arith, eqb-false m 3 p, eqb-false l m q) in
+        rw two (held .layout-2 ∙ both (homingIsMaximum s) (positionsFit 28 s) (sym (held .layout-1) ∙ rw one at e) .0)
 
 pub rewritten : Rewritten
-rewritten s e p = (there 1 s e p, there 2 s (layout-2-holds s (sends 1 s e .good)) p)
+rewritten l m s e h k p = (there l s e p, there m s (later-sends l m s e h k) p)

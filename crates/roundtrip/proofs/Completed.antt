@@ -85,7 +85,7 @@ record Run (ws : List ℕ) : Type 0 where
   before : List ℕ
   words : ws ≡ before ++ wordsFrom 0 xs
   fits : Below xs
-  fields : InFields 0 xs
+  fields : InFields (layoutOf xs) 0 xs
   short : length xs ≤ size (layoutOf xs)
   pending : pendingAfter ws ≡ pendingOf xs
 
@@ -105,11 +105,11 @@ below-append : (xs ys : List ℕ) → Below xs → Below ys → Below (xs ++ ys)
 below-append [] ys b c = c
 below-append (y ∷ xs) ys b c = (b .0, below-append xs ys (b .1) c)
 
-fields-append : (k : ℕ) (xs : List ℕ) (x : ℕ) → InFields k xs → fieldOk (k + length xs) x ≡ true → InFields k (xs ++ x ∷ [])
-fields-append k [] x i f = (subst (λ (j : ℕ). fieldOk j x ≡ true) (omega arith) f, tt)
-fields-append k (y ∷ xs) x i f =
+fields-append : (l k : ℕ) (xs : List ℕ) (x : ℕ) → InFields l k xs → fieldOk l (k + length xs) x ≡ true → InFields l k (xs ++ x ∷ [])
+fields-append l k [] x i f = (subst (λ (j : ℕ). fieldOk l j x ≡ true) (omega arith) f, tt)
+fields-append l k (y ∷ xs) x i f =
     let e : k + suc (length xs) ≡ k + 1 + length xs = omega arith in
-    (i .0, fields-append (k + 1) xs x (i .1) (subst (λ (j : ℕ). fieldOk j x ≡ true) e f))
+    (i .0, fields-append l (k + 1) xs x (i .1) (subst (λ (j : ℕ). fieldOk l j x ≡ true) e f))
 
 -- the first stays
 first-same : (xs : List ℕ) (x : ℕ) → (length xs ≡ 0 → ⊥) → layoutOf (xs ++ x ∷ []) ≡ layoutOf xs
@@ -162,7 +162,7 @@ module _ (ws : List ℕ) (w : ℕ) (r : Run ws) where
                 ap (λ (us : List ℕ). us ++ w ∷ []) (r .words) ∙ append-assoc (r .before) (wordsFrom 0 xs) (w ∷ [])
                 ∙ ap (λ (us : List ℕ). r .before ++ us) (ap (λ (u : ℕ). wordsFrom 0 xs ++ u ∷ []) v ∙ sym (words-append 0 xs x));
             fits = below-append xs (x ∷ []) (r .fits) (omega arith, tt);
-            fields = fields-append 0 xs x (r .fields) (subst (λ (j : ℕ). fieldOk j x ≡ true) n0 f);
+            fields = rw s (fields-append (layoutOf xs) 0 xs x (r .fields) (rw (l, n0) at f));
             short = rw s (omega (arith, length-append xs (x ∷ [])));
             pending = left-by (stored (kept p (kindOf w) x)) e ∙ rw (r .pending, n) (kept-is xs x (omega arith));
           }
@@ -179,7 +179,7 @@ below-zeros zero = tt
 below-zeros (suc n) = (omega arith, below-zeros n)
 
 -- a whole run, and zeros for what its layout does not send, are the values of what they are read as
-module _ (xs : List ℕ) (n : length xs ≡ size (layoutOf xs)) (b : Below xs) (i : InFields 0 xs) where
+module _ (xs : List ℕ) (n : length xs ≡ size (layoutOf xs)) (b : Below xs) (i : InFields (layoutOf xs) 0 xs) where
   abbrev d : List ℕ
   d = pendingOf xs .values
 
@@ -187,12 +187,12 @@ module _ (xs : List ℕ) (n : length xs ≡ size (layoutOf xs)) (b : Below xs) (
   l = layoutOf xs
 
   -- kind 14's value is in its field, and 0 where it is not sent
-  ends : (t : Bool) → eqb l 1 ≡ t → InFields 0 d × (at d 14 < topsEnd t)
+  ends : (t : Bool) → eqb l 1 ≡ t → InFields l 0 d × (at d 14 < topsEnd t)
   unfolding fieldOk spell
   ends true e =
       let m : length xs ≡ 14 = n ∙ ap (λ (u : Bool). cond u 14 15) e in
       let s = spelled 14 xs m in
-      rw m (fields-append 0 xs 0 i (rw m), rw s (omega arith))
+      rw m (fields-append l 0 xs 0 i (rw m), rw s (omega arith))
   ends false e =
       let m : length xs ≡ 15 = n ∙ ap (λ (u : Bool). cond u 14 15) e in
       let s = spelled 15 xs m in
@@ -206,7 +206,7 @@ module _ (xs : List ℕ) (n : length xs ≡ size (layoutOf xs)) (b : Below xs) (
       record {
         long = omega (arith, length-append xs (replicate (15 - length xs) 0), length-replicate {A = ℕ} (15 - length xs) 0);
         below = below-append xs (replicate (15 - length xs) 0) b (below-zeros (15 - length xs));
-        fields = e .0;
+        fields = rw (layout-of-run xs) (e .0);
         unsent = rw (layout-of-run xs) (e .1);
       }
 
@@ -214,7 +214,7 @@ module _ (xs : List ℕ) (n : length xs ≡ size (layoutOf xs)) (b : Below xs) (
   unfolding fieldOk
   is-layout = go xs n i
     where
-      go : (ys : List ℕ) → length ys ≡ size (layoutOf ys) → InFields 0 ys → isLayout (layoutOf ys) ≡ true
+      go : (ys : List ℕ) → length ys ≡ size (layoutOf ys) → InFields (layoutOf ys) 0 ys → isLayout (layoutOf ys) ≡ true
       go [] m f = absurd (omega arith)
       go (y ∷ ys) m f = f .0
 

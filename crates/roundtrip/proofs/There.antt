@@ -33,17 +33,17 @@ use Rattle.roundtrip.proofs.Values.{InFields, values-read, padded, rest
 use Rattle.roundtrip.proofs.Run.{pendingOf, kept-is}
 
 pub small-layout : (l : ℕ) → isLayout l ≡ true → l < 2 ^ 28
-small-layout l k = omega (arith, leb-true l 2 (both (leb 1 l) (leb l 2) k .1))
+small-layout l k = omega (arith, leb-true l 3 (both (leb 1 l) (leb l 3) k .1))
 
 -- a start word
 begin : (p : Pending) (l : ℕ) → isLayout l ≡ true → l < 2 ^ 28 → readOf p (packed 0 l) ≡ stored (started l)
-unfolding startRead fieldOk
+unfolding startRead
 begin p l k h =
     let value : dataOf (packed 0 l) ≡ l = omega arith in
     read-start p (packed 0 l) (omega arith) ∙ rw (value, k)
 
 -- a word of the kind due, its data in its field
-step : (p : Pending) (k x : ℕ) → p .count ≡ k → 0 < k → k < size (layoutIn p) → x < 2 ^ 28 → fieldOk k x ≡ true → readOf p (packed k x) ≡ stored (kept p k x)
+step : (p : Pending) (k x : ℕ) → p .count ≡ k → 0 < k → k < size (layoutIn p) → x < 2 ^ 28 → fieldOk (layoutIn p) k x ≡ true → readOf p (packed k x) ≡ stored (kept p k x)
 unfolding fieldRead
 step p k x c z h b f =
     let s = size-below (layoutIn p) in
@@ -72,7 +72,7 @@ next p q w ws s e r =
 abbrev ending : ℕ → List ℕ → List ℕ → List ℕ
 ending k ys xs = wordsFrom k ys ++ packed 15 (checksumOf (pendingOf xs .values)) ∷ []
 
-reads : (l : ℕ) (xs ys : List ℕ) (k : ℕ) → k ≡ suc (length xs) → k + length ys ≡ size l → Below ys → InFields k ys
+reads : (l : ℕ) (xs ys : List ℕ) (k : ℕ) → k ≡ suc (length xs) → k + length ys ≡ size l → Below ys → InFields l k ys
     → limitsVerdict (settingsOf (pendingOf (l ∷ (xs ++ ys)) .values)) ≡ Accepted
     → ReadInto (pendingOf (l ∷ xs)) (ending k ys (l ∷ (xs ++ ys))) (settingsOf (pendingOf (l ∷ (xs ++ ys)) .values))
 unfolding wordsFrom
@@ -108,7 +108,7 @@ module _ (l : ℕ) (s : Settings) (a : sendable l s ≡ true) where
       let read : settingsOf (pendingOf run .values) ≡ s = ap settingsOf values-are ∙ values-read l s ok (h .held) in
       let n : suc (length (rest l s)) ≡ size l = ap length (sym (sent-is l s)) ∙ sent-size l s in
       let b : Below run = subst Below (sent-is l s) (sent-below l s (h .is-layout) ok) in
-      let f : InFields 0 run = subst (InFields 0) (sent-is l s) (sent-in-fields l s (h .is-layout) ok) in
+      let f : InFields l 0 run = subst (InFields l 0) (sent-is l s) (sent-in-fields l s (h .is-layout) ok) in
       let r = reads l [] (rest l s) 1 refl (omega arith) (b .1) (f .1) (rw read (passes s (h .good) .limits)) in
       rw (sum-is, read) at r
 

@@ -1,32 +1,54 @@
 -- The values of settings in a layout that holds them: each is in the field of its kind, and together they read back as the settings. What the
 -- layout does not send is 0, and is not missed.
 -- Assumes nothing.
-use Prim.Native.Nat.{ℕ, zero, suc, _+_, _-_, _/_, _^_}
-use mathlib.Core.Path.{_≡_, refl, ap}
-use mathlib.Core.Bool.{Bool, true, false, cond}
+use Prim.Native.Nat.{ℕ, zero, suc, _+_, _-_, _*_, _/_, _%_, _^_}
+use mathlib.Core.Path.{_≡_, refl, sym, ap}
+use mathlib.Core.Bool.{Bool, true, false, cond, _||_}
 use mathlib.Core.List.{List, [], _∷_, _++_}
 use native.Mathlib.Omega.{arith}
-use borrow.Author.Tests.{lt-ltb}
+use borrow.Author.Tests.{lt-ltb, eqb-true}
 use lib.Dec.{eqb}
 use lib.ListN.{take, drop, replicate, getD}
 use Rattle.counts.specs.Wrap.{modulo}
 use Rattle.settings.specs.declared.Settings.{Settings}
-use Rattle.settings.specs.Ranges.{inRange}
-use Rattle.settings.proofs.Within.{within, positions}
-use Rattle.layouts.specs.Layout.{isLayout, width, size, layoutHolds}
+use Rattle.settings.specs.Ranges.{positionsFit, inRange}
+use Rattle.settings.proofs.Within.{Within, within, positions, both}
+use Rattle.ranges.specs.Range.{optionOk}
+use Rattle.layouts.specs.Layout.{isLayout, width, size, carriesHoming, homingIsMaximum, layoutHolds}
 use Rattle.words.specs.Encode.{topOf, topsOf, valuesOf, total, checksumOf, sent}
 use Rattle.words.specs.Decode.{positionFrom, settingsOf}
-use Rattle.words.proofs.Bits.{top-below, small, position-read, tops-offset, tops-lower, tops-upper, set-low, set-high}
-use Rattle.words.proofs.Widths.{Below, values-below, tops-small}
-use Rattle.kinds.specs.Fields.{fieldOk}
+use Rattle.words.proofs.Bits.{top-below, small, position-read, tops-offset, tops-lower, tops-upper, set-low, set-high, pair-option, pair-torque, pair-below}
+use Rattle.words.proofs.Widths.{Below, values-below, tops-small, option-below}
+use Rattle.kinds.specs.Fields.{optionWithHomingOk, fieldOk}
 
--- each is in the field of its kind, the first one's being k
-abbrev pub InFields : ℕ → List ℕ → Type 0
-InFields k [] = Unit {0}
-InFields k (x ∷ xs) = (fieldOk k x ≡ true) × InFields (k + 1) xs
+-- each is in the field of its kind, the first one's being k, in layout l
+abbrev pub InFields : ℕ → ℕ → List ℕ → Type 0
+InFields l k [] = Unit {0}
+InFields l k (x ∷ xs) = (fieldOk l k x ≡ true) × InFields l (k + 1) xs
+
+-- kind 12, c saying whether the layout carries a homing torque: it is in its field, and option and torque are read back
+module _ (s : Settings) (w : Within s) where
+  abbrev data12 : Bool → ℕ
+  data12 c = cond c (s .homing * 2 ^ 8 + s .option) (s .option)
+
+  option-in-field : (c : Bool) → cond c (optionWithHomingOk (data12 c)) (optionOk (data12 c)) ≡ true
+  unfolding optionWithHomingOk
+  option-in-field true =
+      let o = option-below (s .option) (w .option) in
+      let h = w .homing in
+      rw (pair-option (s .homing) (s .option) h o, pair-torque (s .homing) (s .option) h o, w .option, h) (lt-ltb _ (2 ^ 20) (pair-below (s .homing) (s .option) h o))
+  option-in-field false = w .option
+
+  option-read : (c : Bool) → cond c (data12 c % 2 ^ 8) (data12 c) ≡ s .option
+  option-read true = pair-option (s .homing) (s .option) (w .homing) (option-below (s .option) (w .option))
+  option-read false = refl
+
+  homing-read : (c : Bool) → c || homingIsMaximum s ≡ true → cond c (data12 c / 2 ^ 8 % 2 ^ 12) (s .maximum) ≡ s .homing
+  homing-read true e = pair-torque (s .homing) (s .option) (w .homing) (option-below (s .option) (w .option))
+  homing-read false e = sym (eqb-true (s .homing) (s .maximum) e)
 
 module _ (l : ℕ) (s : Settings) where
-  pub values-in-fields : isLayout l ≡ true → inRange s ≡ true → InFields 0 (valuesOf l s)
+  pub values-in-fields : isLayout l ≡ true → inRange s ≡ true → InFields l 0 (valuesOf l s)
   unfolding valuesOf fieldOk
   values-in-fields k e =
       let w = within s e in (
@@ -54,7 +76,7 @@ module _ (l : ℕ) (s : Settings) where
                             (
                               rw (set-low (s .positive2) (s .negative2) (w .positive2), set-high (s .positive2) (s .negative2) (w .positive2), w .positive2, w .negative2),
                               (
-                                w .option,
+                                option-in-field s w (carriesHoming l),
                                 (
                                   w .rated,
                                   (
@@ -80,7 +102,8 @@ module _ (l : ℕ) (s : Settings) where
   unfolding valuesOf settingsOf positionFrom
   values-read ok e =
       let w = within s ok in
-      let h = positions (width l) s e in
+      let both-held = both (positionsFit (width l) s) (carriesHoming l || homingIsMaximum s) e in
+      let h = positions (width l) s (both-held .0) in
       let b = eqb l 1 in
       let o = topOf l (s .offset) in
       let a = topOf l (s .lower) in
@@ -96,6 +119,8 @@ module _ (l : ℕ) (s : Settings) where
         set-high (s .positive1) (s .negative1) (w .positive1),
         set-low (s .positive2) (s .negative2) (w .positive2),
         set-high (s .positive2) (s .negative2) (w .positive2),
+        option-read s w (carriesHoming l),
+        homing-read s w (carriesHoming l) (both-held .1),
       )
 
   -- all values are those sent, and zeros
@@ -129,17 +154,17 @@ below-take zero xs b = tt
 below-take (suc n) [] b = tt
 below-take (suc n) (x ∷ xs) b = (b .0, below-take n xs (b .1))
 
-fields-take : (k n : ℕ) (xs : List ℕ) → InFields k xs → InFields k (take n xs)
-fields-take k zero xs f = tt
-fields-take k (suc n) [] f = tt
-fields-take k (suc n) (x ∷ xs) f = (f .0, fields-take (k + 1) n xs (f .1))
+fields-take : (l k n : ℕ) (xs : List ℕ) → InFields l k xs → InFields l k (take n xs)
+fields-take l k zero xs f = tt
+fields-take l k (suc n) [] f = tt
+fields-take l k (suc n) (x ∷ xs) f = (f .0, fields-take l (k + 1) n xs (f .1))
 
 module _ (l : ℕ) (s : Settings) (k : isLayout l ≡ true) (e : inRange s ≡ true) where
   pub sent-below : Below (sent l s)
   sent-below = below-take (size l) (valuesOf l s) (values-below l s k e)
 
-  pub sent-in-fields : InFields 0 (sent l s)
-  sent-in-fields = fields-take 0 (size l) (valuesOf l s) (values-in-fields l s k e)
+  pub sent-in-fields : InFields l 0 (sent l s)
+  sent-in-fields = fields-take l 0 (size l) (valuesOf l s) (values-in-fields l s k e)
 
 -- zeros after the values: no value, no settings and no sum tell of them
 pub zeros : (d : List ℕ) (n k : ℕ) → getD (d ++ replicate n 0) k 0 ≡ getD d k 0

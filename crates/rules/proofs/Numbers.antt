@@ -8,7 +8,7 @@ use native.Mathlib.Omega.{arith}
 use borrow.Author.Tests.{ne-eqb, eq-eqb}
 use Rattle.settings.specs.declared.Settings.{Settings}
 use Rattle.settings.specs.declared.Refusal.{Refusal}
-use Rattle.settings.specs.declared.Refusal.the-variants.{OutOfSequence, UnknownLayout, OutOfRange, ChecksumMismatch, LimitsCrossed, OutOfReach, DriveActive, NoSettings, BufferTooShort, LongValue}
+use Rattle.settings.specs.declared.Refusal.the-variants.{OutOfSequence, UnknownLayout, OutOfRange, ChecksumMismatch, LimitsCrossed, OutOfReach, DriveActive, NoSettings, BufferTooShort, LongValue, HomingTorqueLost}
 use Rattle.settings.specs.Refusal.{numberOf, verdictNumber, Test, firstOf}
 use Rattle.words.specs.Word.{kindOf}
 use Rattle.words.specs.Encode.{checksumOf}
@@ -60,6 +60,7 @@ positive DriveActive e = omega arith
 positive NoSettings e = omega arith
 positive BufferTooShort e = omega arith
 positive LongValue e = omega arith
+positive HomingTorqueLost e = omega arith
 
 -- ---- an end word completes settings or is refused, and no other word completes any
 

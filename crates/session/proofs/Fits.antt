@@ -70,7 +70,7 @@ whole-short (negsuc n) = is (omega (arith, decimal-short (suc n) .short))
 
 -- ---- texts
 
-trade-short : (n : ℕ) → Short 17 (tradeWord n)
+trade-short : (n : ℕ) → Short 21 (tradeWord n)
 trade-short n =
     either (eqb n 0) (is (omega arith))
     (either (eqb n 1) (is (omega arith))
@@ -78,7 +78,7 @@ trade-short n =
     (either (eqb n 3) (is (omega arith))
     (either (eqb n 4) (is (omega arith))
     (either (eqb n 5) (is (omega arith))
-    (either (eqb n 6) (is (omega arith)) (either (eqb n 7) (is (omega arith)) (either (eqb n 8) (is (omega arith)) (either (eqb n 9) (is (omega arith)) (is (omega arith)))))))))))
+    (either (eqb n 6) (is (omega arith)) (either (eqb n 7) (is (omega arith)) (either (eqb n 8) (is (omega arith)) (either (eqb n 9) (is (omega arith)) (either (eqb n 10) (is (omega arith)) (is (omega arith))))))))))))
 
 word-short : (n : ℕ) → Short 512 (wordText n)
 word-short n = within (both (both (all (ascii "word ")) (decimal-short n)) (trade-short n)) (omega arith)

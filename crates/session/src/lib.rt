@@ -24,7 +24,7 @@ impl Session {
     pub fn fresh() -> Session
         ensures { λ r. ⌜ meant r ≡ freshConversation ⌝ }
     {
-        let mut axis: Lent = [0; 38];
+        let mut axis: Lent = [0; 39];
         axis::fresh(&mut axis);
         Session { axis, lines: 0 }
     }

@@ -6,7 +6,7 @@ use mathlib.Core.Bool.{Bool, true, false, _&&_, false≢true}
 use Rattle.counts.specs.Fits.{fits}
 use Rattle.settings.specs.declared.Settings.{Settings}
 use Rattle.ranges.specs.Range.{methodOk, speedOk, ratioOk, torqueOk, optionOk, ratedOk}
-use Rattle.settings.specs.Ranges.{positionsFit, homingOk, gearOk, torquesOk, driveOk, inRange}
+use Rattle.settings.specs.Ranges.{positionsFit, routeOk, gearOk, torquesOk, driveOk, inRange}
 
 pub both : (a b : Bool) → a && b ≡ true → (a ≡ true) × (b ≡ true)
 both true b e = (refl, e)
@@ -45,19 +45,21 @@ pub record Within (s : Settings) : Type 0 where
   pub negative2 : torqueOk (s .negative2) ≡ true
   pub option : optionOk (s .option) ≡ true
   pub rated : ratedOk (s .rated) ≡ true
+  pub homing : torqueOk (s .homing) ≡ true
 
 pub within : (s : Settings) → inRange s ≡ true → Within s
 unfolding inRange
 within s e =
-    let drive = both (positionsFit 32 s && homingOk s && gearOk s && torquesOk s) (driveOk s) e in
-    let torques = both (positionsFit 32 s && homingOk s && gearOk s) (torquesOk s) (drive .0) in
-    let gear = both (positionsFit 32 s && homingOk s) (gearOk s) (torques .0) in
-    let homing = both (positionsFit 32 s) (homingOk s) (gear .0) in
-    let p = positions 32 s (homing .0) in
-    let slow = both (methodOk (s .method) && speedOk (s .fast)) (speedOk (s .slow)) (homing .1) in
+    let drive = both (positionsFit 32 s && routeOk s && gearOk s && torquesOk s) (driveOk s) e in
+    let torques = both (positionsFit 32 s && routeOk s && gearOk s) (torquesOk s) (drive .0) in
+    let gear = both (positionsFit 32 s && routeOk s) (gearOk s) (torques .0) in
+    let search = both (positionsFit 32 s) (routeOk s) (gear .0) in
+    let p = positions 32 s (search .0) in
+    let slow = both (methodOk (s .method) && speedOk (s .fast)) (speedOk (s .slow)) (search .1) in
     let fast = both (methodOk (s .method)) (speedOk (s .fast)) (slow .0) in
     let denominator = both (ratioOk (s .numerator)) (ratioOk (s .denominator)) (gear .1) in
-    let negative2 = both (torqueOk (s .maximum) && torqueOk (s .positive1) && torqueOk (s .negative1) && torqueOk (s .positive2)) (torqueOk (s .negative2)) (torques .1) in
+    let homing = both (torqueOk (s .maximum) && torqueOk (s .positive1) && torqueOk (s .negative1) && torqueOk (s .positive2) && torqueOk (s .negative2)) (torqueOk (s .homing)) (torques .1) in
+    let negative2 = both (torqueOk (s .maximum) && torqueOk (s .positive1) && torqueOk (s .negative1) && torqueOk (s .positive2)) (torqueOk (s .negative2)) (homing .0) in
     let positive2 = both (torqueOk (s .maximum) && torqueOk (s .positive1) && torqueOk (s .negative1)) (torqueOk (s .positive2)) (negative2 .0) in
     let negative1 = both (torqueOk (s .maximum) && torqueOk (s .positive1)) (torqueOk (s .negative1)) (positive2 .0) in
     let positive1 = both (torqueOk (s .maximum)) (torqueOk (s .positive1)) (negative1 .0) in
@@ -78,9 +80,10 @@ within s e =
       negative2 = negative2 .1;
       option = rated .0;
       rated = rated .1;
+      homing = homing .1;
     }
 
 pub whole : (s : Settings) → Within s → inRange s ≡ true
 unfolding inRange positionsFit
 whole s w =
-    rw (w .method, w .fast, w .slow, w .offset, w .numerator, w .denominator, w .lower, w .upper, w .maximum, w .positive1, w .negative1, w .positive2, w .negative2, w .option, w .rated)
+    rw (w .method, w .fast, w .slow, w .offset, w .numerator, w .denominator, w .lower, w .upper, w .maximum, w .positive1, w .negative1, w .positive2, w .negative2, w .option, w .rated, w .homing)

@@ -1,10 +1,10 @@
 // Every field of the settings in its range (01: refusal 3). Offset and position limits have 32 bits, as an i32 has: every one is in range.
 use crate::Settings;
 ghost use mathlib.Core.Path.{_≡_};
-ghost use Rattle.settings.specs.Ranges.{homingOk, gearOk, torquesOk, driveOk, inRange};
+ghost use Rattle.settings.specs.Ranges.{routeOk, gearOk, torquesOk, driveOk, inRange};
 
-fn homing_ok(s: Settings) -> bool
-    ensures { λ r. ⌜ r ≡ homingOk s ⌝ }
+fn route_ok(s: Settings) -> bool
+    ensures { λ r. ⌜ r ≡ routeOk s ⌝ }
 {
     ranges::method_ok(s.method) & ranges::speed_ok(s.fast) & ranges::speed_ok(s.slow)
 }
@@ -23,6 +23,7 @@ fn torques_ok(s: Settings) -> bool
         & ranges::torque_ok(s.negative1)
         & ranges::torque_ok(s.positive2)
         & ranges::torque_ok(s.negative2)
+        & ranges::torque_ok(s.homing)
 }
 
 fn drive_ok(s: Settings) -> bool
@@ -35,5 +36,5 @@ fn drive_ok(s: Settings) -> bool
 pub fn in_range(s: Settings) -> bool
     ensures { λ r. ⌜ r ≡ inRange s ⌝ }
 {
-    homing_ok(s) & gear_ok(s) & torques_ok(s) & drive_ok(s)
+    route_ok(s) & gear_ok(s) & torques_ok(s) & drive_ok(s)
 }

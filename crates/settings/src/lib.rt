@@ -32,6 +32,8 @@ pub struct Settings {
     pub option: u32,
     // Rated torque, in millinewton metres.
     pub rated: u32,
+    // Homing torque: caps the torque in homing mode.
+    pub homing: u32,
 }
 
 // Why a settings word, settings, a tick or a lent buffer is refused (01: refused words, ticks and buffers; 02).
@@ -46,6 +48,7 @@ pub enum Refusal {
     NoSettings,
     BufferTooShort,
     LongValue,
+    HomingTorqueLost,
 }
 
 pub enum Verdict {
@@ -68,6 +71,7 @@ pub fn number(refusal: Refusal) -> u32
         Refusal::NoSettings => 8,
         Refusal::BufferTooShort => 9,
         Refusal::LongValue => 10,
+        Refusal::HomingTorqueLost => 11,
     }
 }
 

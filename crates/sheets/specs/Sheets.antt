@@ -1,10 +1,12 @@
 -- docs/LINES.md: "sheet LENGTH METHOD FAST SLOW OFFSET NUM DEN LOWER UPPER MAX P1 N1 P2 N2 OPTION RATED", and `layout`, with LAYOUT before
--- LENGTH; "OFFSET, LOWER and UPPER are I32"
+-- LENGTH and HOMING, where it has one, after RATED; "OFFSET, LOWER and UPPER are I32"
 -- Assumes nothing.
 use Prim.Native.Nat.{ℕ, _^_}
+use mathlib.Core.Bool.{Bool, true, false, cond, not, _&&_}
 use mathlib.Core.List.{List}
 use Rattle.numerals.specs.Signs.{signedWhole}
 use Rattle.numerals.specs.Limits.{unsigned32Of, lengthOf}
+use Rattle.cursors.specs.Cursor.{atEnd}
 use Rattle.cursors.specs.declared.Cursor.{Cursor}
 use Rattle.cursors.specs.declared.Expected.the-variants as expected
 use Rattle.scanner.specs.declared.NumberRead.{NumberRead}
@@ -48,12 +50,18 @@ torquesRead text c =
     let rated = unsignedAt text (option .cursor) in
     record { maximum = maximum .value; positive1 = positive1 .value; negative1 = negative1 .value; positive2 = positive2 .value; negative2 = negative2 .value; option = option .value; rated = rated .value; cursor = rated .cursor }
 
-unfoldable pub fieldsRead : ℕ → List ℕ → Cursor → WritingRead
-fieldsRead layout text c =
+-- "HOMING left out is MAX"; a line that may not have it leaves it out
+unfoldable pub homingTorqueRead : Bool → ℕ → List ℕ → Cursor → NumberRead
+homingTorqueRead allowed maximum text c = cond (allowed && not (atEnd text c)) (unsignedAt text c) (record { value = maximum; cursor = c })
+
+-- `allowed`: the line may have HOMING
+unfoldable pub fieldsRead : Bool → ℕ → List ℕ → Cursor → WritingRead
+fieldsRead allowed layout text c =
     let length = numberAt lengthOf expected.Whole text c in
     let homing = homingRead text (length .cursor) in
     let travel = travelRead text (homing .cursor) in
     let torques = torquesRead text (travel .cursor) in
+    let homingTorque = homingTorqueRead allowed (torques .maximum) text (torques .cursor) in
     record {
       writing =
           record {
@@ -76,16 +84,17 @@ fieldsRead layout text c =
                   negative2 = torques .negative2;
                   option = torques .option;
                   rated = torques .rated;
+                  homing = homingTorque .value;
                 };
           };
-      cursor = torques .cursor;
+      cursor = homingTorque .cursor;
     }
 
--- 02, (iv): the writer "is told the layout"; a line that names none tells it layout 1
+-- 02, (iv): the writer "is told the layout"; "`sheet` writes layout 1, its homing torque is MAX"
 abbrev pub sheetRead : List ℕ → Cursor → WritingRead
-sheetRead text c = fieldsRead 1 text c
+sheetRead text c = fieldsRead false 1 text c
 
 abbrev pub layoutRead : List ℕ → Cursor → WritingRead
 layoutRead text c =
     let layout = unsignedAt text c in
-    fieldsRead (layout .value) text (layout .cursor)
+    fieldsRead true (layout .value) text (layout .cursor)

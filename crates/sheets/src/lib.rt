@@ -1,8 +1,10 @@
-// The words after `sheet`: LENGTH METHOD FAST SLOW OFFSET NUM DEN LOWER UPPER MAX P1 N1 P2 N2 OPTION RATED. After `layout` LAYOUT comes first.
+// The words after `sheet`: LENGTH METHOD FAST SLOW OFFSET NUM DEN LOWER UPPER MAX P1 N1 P2 N2 OPTION RATED. After `layout` LAYOUT comes first, and
+// HOMING may come last.
 use cursors::Cursor;
+use scanner::NumberRead;
 use settings::Settings;
 ghost use mathlib.Core.Path.{_≡_};
-ghost use Rattle.sheets.specs.Sheets.{homingRead, travelRead, torquesRead, fieldsRead, sheetRead, layoutRead};
+ghost use Rattle.sheets.specs.Sheets.{homingRead, travelRead, torquesRead, homingTorqueRead, fieldsRead, sheetRead, layoutRead};
 
 // Settings to be written in a layout, known or not, to a buffer of `length` words.
 pub struct Writing {
@@ -116,9 +118,23 @@ fn torques(text: &[u8], cursor: Cursor) -> TorquesRead
     }
 }
 
-// LENGTH METHOD .. RATED.
-fn fields(layout: u32, text: &[u8], cursor: Cursor) -> WritingRead
-    ensures { λ r. ⌜ r ≡ fieldsRead layout (now (text .entry)) cursor ⌝ }
+// HOMING, on a line that is allowed it; where it is left out it is MAX.
+fn homing_torque(allowed: bool, maximum: u32, text: &[u8], cursor: Cursor) -> NumberRead
+    ensures { λ r. ⌜ r ≡ homingTorqueRead allowed maximum (now (text .entry)) cursor ⌝ }
+{
+    if allowed & !cursor.at_end(text) {
+        scanner::unsigned(text, cursor)
+    } else {
+        NumberRead {
+            value: maximum,
+            cursor,
+        }
+    }
+}
+
+// LENGTH METHOD .. RATED, and HOMING on a line that is allowed it.
+fn fields(allowed: bool, layout: u32, text: &[u8], cursor: Cursor) -> WritingRead
+    ensures { λ r. ⌜ r ≡ fieldsRead allowed layout (now (text .entry)) cursor ⌝ }
 {
     let length = scanner::length(text, cursor);
     let cursor = length.cursor;
@@ -128,6 +144,8 @@ fn fields(layout: u32, text: &[u8], cursor: Cursor) -> WritingRead
     let cursor = travel.cursor;
     let torques = torques(text, cursor);
     let cursor = torques.cursor;
+    let homing_torque = homing_torque(allowed, torques.maximum, text, cursor);
+    let cursor = homing_torque.cursor;
     WritingRead {
         writing: Writing {
             layout,
@@ -148,24 +166,25 @@ fn fields(layout: u32, text: &[u8], cursor: Cursor) -> WritingRead
                 negative2: torques.negative2,
                 option: torques.option,
                 rated: torques.rated,
+                homing: homing_torque.value,
             },
         },
         cursor,
     }
 }
 
-// A sheet line writes layout 1.
+// A sheet line writes layout 1, and has no HOMING.
 pub fn sheet(text: &[u8], cursor: Cursor) -> WritingRead
     ensures { λ r. ⌜ r ≡ sheetRead (now (text .entry)) cursor ⌝ }
 {
-    fields(1, text, cursor)
+    fields(false, 1, text, cursor)
 }
 
-// LAYOUT, and what a sheet line has.
+// LAYOUT, what a sheet line has, and HOMING, or none.
 pub fn layout(text: &[u8], cursor: Cursor) -> WritingRead
     ensures { λ r. ⌜ r ≡ layoutRead (now (text .entry)) cursor ⌝ }
 {
     let layout = scanner::unsigned(text, cursor);
     let cursor = layout.cursor;
-    fields(layout.value, text, cursor)
+    fields(true, layout.value, text, cursor)
 }

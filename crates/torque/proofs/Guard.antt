@@ -1,6 +1,6 @@
 -- On settings in range the cap's guard changes nothing, and the commanded torque is the one with no guard.
 -- Assumes nothing.
-use Prim.Native.Nat.{ℕ, min}
+use Prim.Native.Nat.{ℕ}
 use mathlib.Core.Path.{_≡_}
 use mathlib.Core.Bool.{Bool, true}
 use native.Mathlib.Omega.{arith}
@@ -9,14 +9,17 @@ use lib.IntN.{ℤ}
 use Rattle.settings.specs.declared.Settings.{Settings}
 use Rattle.settings.specs.Ranges.{inRange}
 use Rattle.settings.proofs.Within.{within}
+use Rattle.modes.specs.declared.Mode.{Mode}
 use Rattle.torque.specs.declared.LimitSet.{LimitSet}
-use Rattle.torque.specs.Limits.{positiveLimit, negativeLimit, capOf}
+use Rattle.torque.specs.Limits.{positiveLimit, negativeLimit, capOf, guarded}
 use Rattle.torque.specs.Torque.{torqueOf, plainTorque}
+use Rattle.torque.proofs.Within.{ceiling-low}
 
-pub cap-kept : (s : Settings) → inRange s ≡ true → (limit : ℕ) → capOf (s .maximum) limit ≡ min (s .maximum) limit
+pub cap-kept : (s : Settings) → inRange s ≡ true → (mode : Mode) (limit : ℕ) → guarded (capOf s mode limit) ≡ capOf s mode limit
 unfolding capOf
-cap-kept s e limit = omega (arith, leb-true (s .maximum) 3000 (within s e .maximum))
+cap-kept s e mode limit = omega (arith, leb-true (s .maximum) 3000 (within s e .maximum), ceiling-low s mode)
 
-pub torque-plain : (s : Settings) → inRange s ≡ true → (set : LimitSet) (on : Bool) (demand : ℤ) → torqueOf s set on demand ≡ plainTorque s set on demand
+pub torque-plain : (s : Settings) → inRange s ≡ true → (mode : Mode) (set : LimitSet) (on : Bool) (demand : ℤ)
+    → torqueOf s mode set on demand ≡ plainTorque s mode set on demand
 unfolding torqueOf
-torque-plain s e set on demand = rw (cap-kept s e (negativeLimit s set), cap-kept s e (positiveLimit s set))
+torque-plain s e mode set on demand = rw (cap-kept s e mode (negativeLimit s set), cap-kept s e mode (positiveLimit s set))

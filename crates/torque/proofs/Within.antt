@@ -1,7 +1,7 @@
--- The torque lies within the maximum and the chosen limit, each way, whatever the demand; and is zero where it is off.
+-- The torque lies within the cap, each way, whatever the demand, and so within the maximum and the chosen limit; and is zero where it is off.
 -- Assumes nothing.
-use Prim.Native.Nat.{ℕ, zero, suc, _≤_}
-use mathlib.Core.Path.{_≡_, refl, sym, subst}
+use Prim.Native.Nat.{ℕ, zero, suc, min, _≤_}
+use mathlib.Core.Path.{_≡_, refl, sym, ap, subst}
 use mathlib.Core.Bool.{Bool, true, false, cond, not}
 use native.Mathlib.Omega.{arith}
 use lib.Dec.{T, leb→le, le→leb}
@@ -9,10 +9,13 @@ use lib.IntN.{ℤ, pos, negsuc, negℤ}
 use lib.Signed.{ltZ, _≤ℤ_, leZ-yes, ltZ-no, ≤ℤ-refl}
 use Rattle.counts.specs.Clamp.{clamped}
 use Rattle.settings.specs.declared.Settings.{Settings}
+use Rattle.modes.specs.declared.Mode.{Mode}
+use Rattle.modes.specs.declared.Mode.the-variants.{Homing}
+use Rattle.modes.specs.Modes.{isMode}
 use Rattle.torque.specs.declared.LimitSet.{LimitSet}
-use Rattle.torque.specs.Limits.{positiveLimit, negativeLimit, capOf}
+use Rattle.torque.specs.Limits.{positiveLimit, negativeLimit, ceilingOf, capOf, positiveCap, negativeCap, guarded}
 use Rattle.torque.specs.Torque.{torqueOf}
-use Rattle.torque.specs.Bounded.{Bounded}
+use Rattle.torque.specs.Bounded.{Bounded, BaseCaps, StillWithinLimits, WithinHomingTorque}
 
 -- a bound that is further off
 up-to : (z : ℤ) (m n : ℕ) → z ≤ℤ pos m → m ≤ n → z ≤ℤ pos n
@@ -56,34 +59,71 @@ module _ (z : ℤ) (n p : ℕ) where
       go false e true = across n p
       go false e false = not-below z (negℤ (pos n)) e
 
--- a cap is at most each of the two
-cap-least : (m l : ℕ) → (capOf m l ≤ m) × (capOf m l ≤ l)
+-- what caps every limit is at most the maximum, and in mode 6 at most the homing torque
+pub ceiling-low : (s : Settings) (mode : Mode) → ceilingOf s mode ≤ s .maximum
+ceiling-low s mode = go (isMode mode Homing)
+  where
+    go : (b : Bool) → cond b (min (s .maximum) (s .homing)) (s .maximum) ≤ s .maximum
+    go true = omega arith
+    go false = omega arith
+
+ceiling-homing : (s : Settings) (mode : Mode) → isMode mode Homing ≡ true → ceilingOf s mode ≤ s .homing
+ceiling-homing s mode e = rw e (omega arith)
+
+-- so is the cap, and at most its limit
+cap-maximum : (s : Settings) (mode : Mode) (limit : ℕ) → capOf s mode limit ≤ s .maximum
 unfolding capOf
-cap-least m l = (omega arith, omega arith)
+cap-maximum s mode limit = omega (arith, ceiling-low s mode)
 
-pub bounded : (s : Settings) (set : LimitSet) (on : Bool) (demand : ℤ) → Bounded s set (torqueOf s set on demand)
+cap-limit : (s : Settings) (mode : Mode) (limit : ℕ) → capOf s mode limit ≤ limit
+unfolding capOf
+cap-limit s mode limit = omega arith
+
+cap-homing : (s : Settings) (mode : Mode) (limit : ℕ) → isMode mode Homing ≡ true → capOf s mode limit ≤ s .homing
+unfolding capOf
+cap-homing s mode limit e = omega (arith, ceiling-homing s mode e)
+
+guarded-low : (cap : ℕ) → guarded cap ≤ cap
+guarded-low cap = omega arith
+
+pub bounded : (s : Settings) (mode : Mode) (set : LimitSet) (on : Bool) (demand : ℤ) → Bounded s mode set (torqueOf s mode set on demand)
 unfolding torqueOf
-bounded s set true demand =
-    let up = cap-least (s .maximum) (positiveLimit s set) in
-    let down = cap-least (s .maximum) (negativeLimit s set) in
-    let n = capOf (s .maximum) (negativeLimit s set) in
-    let p = capOf (s .maximum) (positiveLimit s set) in
-    let high = at-most demand n p in
-    let low = at-least demand n p in
+bounded s mode set true demand =
+    let n = negativeCap s mode set in
+    let p = positiveCap s mode set in
     record {
-      below-maximum = up-to _ p _ high (up .0);
-      below-limit = up-to _ p _ high (up .1);
-      above-maximum = down-to _ n _ low (down .0);
-      above-limit = down-to _ n _ low (down .1);
+      below = up-to _ (guarded p) p (at-most demand (guarded n) (guarded p)) (guarded-low p);
+      above = down-to _ (guarded n) n (at-least demand (guarded n) (guarded p)) (guarded-low n);
     }
-bounded s set false demand =
+bounded s mode set false demand = record { below = across 0 (positiveCap s mode set); above = across (negativeCap s mode set) 0 }
+
+pub base-caps : BaseCaps
+unfolding capOf
+base-caps s mode limit = record { elsewhere = λ e. rw e; not-below = λ h. ap (λ (c : ℕ). min c limit) (go (isMode mode Homing) h) }
+  where
+    go : (b : Bool) → s .maximum ≤ s .homing → cond b (min (s .maximum) (s .homing)) (s .maximum) ≡ s .maximum
+    go true h = omega arith
+    go false h = refl
+
+-- demand 3's own sentence
+pub still-within : StillWithinLimits
+still-within s mode set t b =
+    let positive = positiveLimit s set in
+    let negative = negativeLimit s set in
     record {
-      below-maximum = across 0 (s .maximum);
-      below-limit = across 0 (positiveLimit s set);
-      above-maximum = across (s .maximum) 0;
-      above-limit = across (negativeLimit s set) 0;
+      below-maximum = up-to t _ _ (b .below) (cap-maximum s mode positive);
+      below-limit = up-to t _ _ (b .below) (cap-limit s mode positive);
+      above-maximum = down-to t _ _ (b .above) (cap-maximum s mode negative);
+      above-limit = down-to t _ _ (b .above) (cap-limit s mode negative);
     }
 
-pub zero-when-off : (s : Settings) (set : LimitSet) (demand : ℤ) → torqueOf s set false demand ≡ pos 0
+pub within-homing : WithinHomingTorque
+within-homing s mode set t e b =
+    record {
+      below = up-to t _ _ (b .below) (cap-homing s mode (positiveLimit s set) e);
+      above = down-to t _ _ (b .above) (cap-homing s mode (negativeLimit s set) e);
+    }
+
+pub zero-when-off : (s : Settings) (mode : Mode) (set : LimitSet) (demand : ℤ) → torqueOf s mode set false demand ≡ pos 0
 unfolding torqueOf
-zero-when-off s set demand = refl
+zero-when-off s mode set demand = refl

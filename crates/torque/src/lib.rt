@@ -1,11 +1,12 @@
 // The torque that a tick commands: a demand held within the torque limits of the settings.
 use commands::Demand;
+use modes::Mode;
 use settings::Settings;
 ghost use mathlib.Core.Path.{_≡_};
 ghost use Prim.Native.Nat.{min};
 ghost use Rattle.commands.specs.Commands.{wholeDemand};
 ghost use Rattle.counts.specs.Clamp.{clamped};
-ghost use Rattle.torque.specs.Limits.{capOf, boundsOf, chosenBounds};
+ghost use Rattle.torque.specs.Limits.{ceilingOf, guarded, boundsOf, chosenBounds};
 ghost use Rattle.torque.specs.Torque.{torqueOf};
 
 // The choice of a tick between the two sets of torque limits.
@@ -20,39 +21,47 @@ pub struct Bounds {
     pub high: i32,
 }
 
-// The lesser of the maximum and a limit; and, of values that no settings in range have, at most 3000.
-fn cap(maximum: u32, limit: u32) -> u32
-    ensures { λ r. ⌜ r ≡ capOf maximum limit ⌝ }
+fn lesser(a: u32, b: u32) -> u32
+    ensures { λ r. ⌜ r ≡ min a b ⌝ }
 {
-    if maximum < limit {
-        at_most_3000(maximum)
+    if a < b { a } else { b }
+}
+
+// What caps every limit in a shown mode: the maximum, in homing mode the homing torque too.
+fn ceiling(s: Settings, mode: Mode) -> u32
+    ensures { λ r. ⌜ r ≡ ceilingOf s mode ⌝ }
+{
+    if modes::is_mode(mode, Mode::Homing) {
+        lesser(s.maximum, s.homing)
     } else {
-        at_most_3000(limit)
+        s.maximum
     }
 }
 
-fn at_most_3000(torque: u32) -> u32
-    ensures { λ r. ⌜ r ≡ min torque 3000 ⌝ }
+// The cap of a limit; and, of values that no settings in range have, at most what an i32 holds.
+fn cap(ceiling: u32, limit: u32) -> u32
+    ensures { λ r. ⌜ r ≡ guarded (min ceiling limit) ⌝ }
 {
-    if torque < 3000 { torque } else { 3000 }
+    lesser(lesser(ceiling, limit), 0x7FFFFFFF)
 }
 
-fn bounds_of(maximum: u32, positive: u32, negative: u32) -> Bounds
-    ensures { λ r. ⌜ r ≡ boundsOf maximum positive negative ⌝ }
+fn bounds_of(ceiling: u32, positive: u32, negative: u32) -> Bounds
+    ensures { λ r. ⌜ r ≡ boundsOf (min ceiling negative) (min ceiling positive) ⌝ }
 {
     Bounds {
-        low: -(cap(maximum, negative) as i32),
-        high: cap(maximum, positive) as i32,
+        low: -(cap(ceiling, negative) as i32),
+        high: cap(ceiling, positive) as i32,
     }
 }
 
-// The bounds of a tick that chose this set.
-pub fn chosen_bounds(s: Settings, set: LimitSet) -> Bounds
-    ensures { λ r. ⌜ r ≡ chosenBounds s set ⌝ }
+// The bounds of a tick that shows this mode and chose this set.
+pub fn chosen_bounds(s: Settings, mode: Mode, set: LimitSet) -> Bounds
+    ensures { λ r. ⌜ r ≡ chosenBounds s mode set ⌝ }
 {
+    let ceiling = ceiling(s, mode);
     match set {
-        LimitSet::Set1 => bounds_of(s.maximum, s.positive1, s.negative1),
-        LimitSet::Set2 => bounds_of(s.maximum, s.positive2, s.negative2),
+        LimitSet::Set1 => bounds_of(ceiling, s.positive1, s.negative1),
+        LimitSet::Set2 => bounds_of(ceiling, s.positive2, s.negative2),
     }
 }
 
@@ -66,12 +75,12 @@ fn held(demand: Demand, low: i32, high: i32) -> i32
     }
 }
 
-// The torque of a demand; on: the drive is live and the command matched.
-pub fn torque(s: Settings, set: LimitSet, on: bool, demand: Demand) -> i32
-    ensures { λ r. ⌜ r ≡ torqueOf s set on (wholeDemand demand) ⌝ }
+// The torque of a demand; mode: the shown one; on: the drive is live and the command matched.
+pub fn torque(s: Settings, mode: Mode, set: LimitSet, on: bool, demand: Demand) -> i32
+    ensures { λ r. ⌜ r ≡ torqueOf s mode set on (wholeDemand demand) ⌝ }
 {
     if on {
-        let b = chosen_bounds(s, set);
+        let b = chosen_bounds(s, mode, set);
         held(demand, b.low, b.high)
     } else {
         0

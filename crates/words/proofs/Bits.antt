@@ -1,4 +1,5 @@
--- Offset and limits of 28 or 32 bits, b saying which: the low 28 in one word, those above in another. Two torque limits in one word.
+-- Offset and limits of 28 or 32 bits, b saying which: the low 28 in one word, those above in another. Two torque limits in one word, an option and a torque
+-- in one.
 -- Assumes nothing.
 use Prim.Native.Nat.{ℕ, suc, _+_, _-_, _*_, _/_, _%_, _^_, _<_, _≤_}
 use mathlib.Core.Path.{_≡_, refl, ap}
@@ -113,3 +114,17 @@ module _ (p n : ℕ) (h : torqueOk p ≡ true) where
 
 pub set-both : (x : ℕ) → limitSet (x % 2 ^ 14) (x / 2 ^ 14) ≡ x
 set-both x = omega arith
+
+-- an option and a homing torque in one word
+module _ (torque option : ℕ) (h : torqueOk torque ≡ true) (o : option < 2 ^ 8) where
+  pub pair-option : (torque * 2 ^ 8 + option) % 2 ^ 8 ≡ option
+  pair-option = omega arith
+
+  pub pair-torque : (torque * 2 ^ 8 + option) / 2 ^ 8 % 2 ^ 12 ≡ torque
+  pair-torque = omega (arith, leb-true torque 3000 h)
+
+  pub pair-below : torque * 2 ^ 8 + option < 2 ^ 20
+  pair-below = omega (arith, leb-true torque 3000 h)
+
+pub pair-both : (x : ℕ) → x < 2 ^ 20 → x / 2 ^ 8 % 2 ^ 12 * 2 ^ 8 + x % 2 ^ 8 ≡ x
+pair-both x h = omega arith

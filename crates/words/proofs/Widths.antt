@@ -1,19 +1,19 @@
 -- The data of settings in range: each fits a word's 28 bits.
 -- Assumes nothing.
-use Prim.Native.Nat.{ℕ, zero, suc, _+_, _-_, _^_, _<_}
+use Prim.Native.Nat.{ℕ, zero, suc, _+_, _-_, _*_, _^_, _<_}
 use mathlib.Core.Path.{_≡_, refl}
-use mathlib.Core.Bool.{Bool, true, false, _||_}
+use mathlib.Core.Bool.{Bool, true, false, cond, _||_}
 use mathlib.Core.List.{List, [], _∷_}
 use native.Mathlib.Omega.{arith}
 use borrow.Author.Tests.{leb-true, eqb-true}
 use lib.Dec.{leb, eqb}
 use Rattle.settings.specs.declared.Settings.{Settings}
 use Rattle.counts.specs.Between.{between}
-use Rattle.ranges.specs.Range.{methodOk, optionOk}
+use Rattle.ranges.specs.Range.{methodOk, torqueOk, optionOk}
 use Rattle.settings.specs.Ranges.{inRange}
-use Rattle.layouts.specs.Layout.{isLayout}
+use Rattle.layouts.specs.Layout.{isLayout, carriesHoming}
 use Rattle.settings.proofs.Within.{within, both}
-use Rattle.words.specs.Encode.{topOf, topsOf, valuesOf, below}
+use Rattle.words.specs.Encode.{topOf, topsOf, optionData, valuesOf, below}
 use Rattle.words.proofs.Bits.{low-below, top-below, small, tops-below, set-below}
 
 -- each is below 2 ^ 28
@@ -43,8 +43,15 @@ method-below m =
     (λ h. omega (arith, top 23 30 m h)))
     (λ h. omega (arith, top 33 35 m h))
 
-option-below : (x : ℕ) → optionOk x ≡ true → x < 2 ^ 28
+pub option-below : (x : ℕ) → optionOk x ≡ true → x < 2 ^ 8
 option-below x e = either-below (eqb x 2) (eqb x 6) (λ h. omega (arith, eqb-true x 2 h)) (λ h. omega (arith, eqb-true x 6 h)) e
+
+option-data-below : (l : ℕ) (s : Settings) → optionOk (s .option) ≡ true → torqueOk (s .homing) ≡ true → optionData l s < 2 ^ 28
+option-data-below l s o h = go (carriesHoming l)
+  where
+    go : (b : Bool) → cond b (s .homing * 2 ^ 8 + s .option) (s .option) < 2 ^ 28
+    go true = omega (arith, option-below (s .option) o, leb-true (s .homing) 3000 h)
+    go false = omega (arith, option-below (s .option) o)
 
 module _ (l : ℕ) (s : Settings) where
   pub tops-small : topsOf l s < 2 ^ 12
@@ -57,7 +64,7 @@ module _ (l : ℕ) (s : Settings) where
   unfolding valuesOf
   values-below k e =
       let w = within s e in (
-        omega (arith, top 1 2 l k),
+        omega (arith, top 1 3 l k),
         (
           method-below (s .method) (w .method),
           (
@@ -81,7 +88,7 @@ module _ (l : ℕ) (s : Settings) where
                             (
                               set-below (s .positive2) (s .negative2) (w .positive2) (w .negative2),
                               (
-                                option-below (s .option) (w .option),
+                                option-data-below l s (w .option) (w .homing),
                                 (
                                   omega (arith, top 1 (2 ^ 24) (s .rated) (w .rated)),
                                   (

@@ -1,12 +1,13 @@
--- 01, "The sheet", and 02, (iv): the settings that the data of kinds 0 to 14 carry; kind 0 tells the layout.
+-- 01, "The sheet", and 02, (iv) and (v): the settings that the data of kinds 0 to 14 carry; kind 0 tells the layout.
 -- Assumes nothing.
 use Prim.Native.Nat.{ℕ, _+_, _*_, _/_, _%_, _^_}
+use mathlib.Core.Bool.{cond}
 use mathlib.Core.List.{List}
 use lib.IntN.{ℤ}
 use lib.ListN.{getD}
 use Rattle.counts.specs.Wrap.{signed}
 use Rattle.settings.specs.declared.Settings.{Settings}
-use Rattle.layouts.specs.Layout.{width}
+use Rattle.layouts.specs.Layout.{width, carriesHoming}
 
 abbrev pub at : List ℕ → ℕ → ℕ
 at d kind = getD d kind 0
@@ -24,14 +25,22 @@ lowerTop d = at d 14 / 2 ^ 4 % 2 ^ 4
 abbrev pub upperTop : List ℕ → ℕ
 upperTop d = at d 14 / 2 ^ 8 % 2 ^ 4
 
--- two's complement over the bits that the layout has: the low 28, and in layout 2 the top four. % 2 ^ width is a guard: on what words carry
+-- two's complement over the bits that the layout has: the low 28, and in layouts 2 and 3 the top four. % 2 ^ width is a guard: on what words carry
 -- it changes nothing
 unfoldable pub positionFrom : ℕ → ℕ → ℕ → ℤ
 positionFrom layout low top = signed (width layout) ((low + top * 2 ^ 28) % 2 ^ width layout)
 
--- with offset and stops given, all else from the data
-abbrev pub settingsFrom : ℤ → ℤ → ℤ → List ℕ → Settings
-settingsFrom offset lower upper d =
+-- kind 12: in layout 3 "bits 0 to 7 keep the option", else all of it is the option
+abbrev pub optionFrom : List ℕ → ℕ
+optionFrom d = cond (carriesHoming (layoutOf d)) (at d 12 % 2 ^ 8) (at d 12)
+
+-- in layout 3 "bits 8 to 19 hold the homing torque"; "Layouts 1 and 2 read as homing torque equal to the maximum"
+abbrev pub homingFrom : List ℕ → ℕ
+homingFrom d = cond (carriesHoming (layoutOf d)) (at d 12 / 2 ^ 8 % 2 ^ 12) (at d 9)
+
+-- with those given that layouts carry in their own ways, all else from the data
+abbrev pub settingsFrom : ℤ → ℤ → ℤ → ℕ → ℕ → List ℕ → Settings
+settingsFrom offset lower upper option homing d =
     record {
       method = at d 1;
       fast = at d 2;
@@ -46,8 +55,9 @@ settingsFrom offset lower upper d =
       negative1 = at d 10 / 2 ^ 14;
       positive2 = at d 11 % 2 ^ 14;
       negative2 = at d 11 / 2 ^ 14;
-      option = at d 12;
+      option = option;
       rated = at d 13;
+      homing = homing;
     }
 
 unfoldable pub settingsOf : List ℕ → Settings
@@ -56,4 +66,6 @@ settingsOf d =
     (positionFrom (layoutOf d) (at d 4) (offsetTop d))
     (positionFrom (layoutOf d) (at d 7) (lowerTop d))
     (positionFrom (layoutOf d) (at d 8) (upperTop d))
+    (optionFrom d)
+    (homingFrom d)
     d

@@ -4,7 +4,7 @@ ghost use mathlib.Core.Path.{_≡_};
 ghost use Prim.Native.Nat.{_%_, _^_};
 ghost use mathlib.Core.List.{[], _∷_, _++_};
 ghost use Rattle.counts.specs.Wrap.{signed};
-ghost use Rattle.words.specs.Decode.{positionFrom, settingsFrom, settingsOf};
+ghost use Rattle.words.specs.Decode.{positionFrom, optionFrom, homingFrom, settingsFrom, settingsOf};
 
 // The low 28 bits, read as signed. Of the two shifts, the one down keeps the sign.
 fn short_position(low: u32) -> i32
@@ -25,9 +25,38 @@ fn position(layout: u32, low: u32, top: u32) -> i32
     }
 }
 
-// The settings that the values carry, but for offset and position limits, which are given.
-pub fn decode_with(offset: i32, lower: i32, upper: i32, values: [u32; 14]) -> Settings
-    ensures { λ r. ⌜ r ≡ settingsFrom offset lower upper values ⌝ }
+// The option that the values carry.
+fn option(values: [u32; 14]) -> u32
+    ensures { λ r. ⌜ r ≡ optionFrom values ⌝ }
+{
+    if layouts::carries_homing(values[0]) {
+        values[12] % 0x100
+    } else {
+        values[12]
+    }
+}
+
+// The homing torque that they carry; older layouts read as the maximum.
+fn homing(values: [u32; 14]) -> u32
+    ensures { λ r. ⌜ r ≡ homingFrom values ⌝ }
+{
+    if layouts::carries_homing(values[0]) {
+        values[12] / 0x100 % 0x1000
+    } else {
+        values[9]
+    }
+}
+
+// The settings that the values carry, but for those that layouts carry in their own ways, which are given.
+pub fn decode_with(
+    offset: i32,
+    lower: i32,
+    upper: i32,
+    option: u32,
+    homing: u32,
+    values: [u32; 14],
+) -> Settings
+    ensures { λ r. ⌜ r ≡ settingsFrom offset lower upper option homing values ⌝ }
 {
     Settings {
         method: values[1],
@@ -43,8 +72,9 @@ pub fn decode_with(offset: i32, lower: i32, upper: i32, values: [u32; 14]) -> Se
         negative1: values[10] / 0x4000,
         positive2: values[11] % 0x4000,
         negative2: values[11] / 0x4000,
-        option: values[12],
+        option,
         rated: values[13],
+        homing,
     }
 }
 
@@ -56,5 +86,5 @@ pub fn decode(values: [u32; 14], tops: u32) -> Settings
     let offset = position(layout, values[4], tops % 0x10);
     let lower = position(layout, values[7], tops / 0x10 % 0x10);
     let upper = position(layout, values[8], tops / 0x100 % 0x10);
-    decode_with(offset, lower, upper, values)
+    decode_with(offset, lower, upper, option(values), homing(values), values)
 }

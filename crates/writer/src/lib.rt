@@ -10,7 +10,7 @@ ghost use mathlib.Core.List.{_++_};
 ghost use lib.ListN.{length, take, drop};
 ghost use Rattle.ranges.specs.Range.{torqueOk};
 ghost use Rattle.settings.specs.Ranges.{inRange};
-ghost use Rattle.words.specs.Encode.{limitSet, lowOf, topOf, topsOf, valuesOf, below, checksumOf, wordsFrom, sealed};
+ghost use Rattle.words.specs.Encode.{limitSet, lowOf, topOf, topsOf, optionData, valuesOf, below, checksumOf, wordsFrom, sealed};
 ghost use Rattle.writer.specs.Write.{writeVerdict, written};
 
 // The low 28 bits of a position.
@@ -49,6 +49,18 @@ fn limit_pair(positive: u32, negative: u32) -> u32
     negative * 0x4000 + positive
 }
 
+// The option, with the homing torque above its 8 bits where the layout carries that.
+fn option_data(layout: u32, s: Settings) -> u32
+    requires { ⌜ inRange s ≡ true ⌝ }
+    ensures { λ r. ⌜ r ≡ optionData layout s ⌝ }
+{
+    if layouts::carries_homing(layout) {
+        s.homing * 0x100 + s.option
+    } else {
+        s.option
+    }
+}
+
 // The data of kinds 0 to 14.
 fn values(layout: u32, s: Settings) -> [u32; 15]
     requires { ⌜ inRange s ≡ true ⌝ }
@@ -59,6 +71,7 @@ fn values(layout: u32, s: Settings) -> [u32; 15]
     let upper = low(s.upper);
     let set1 = limit_pair(s.positive1, s.negative1);
     let set2 = limit_pair(s.positive2, s.negative2);
+    let option = option_data(layout, s);
     let tops = tops(layout, s);
     [
         layout,
@@ -73,7 +86,7 @@ fn values(layout: u32, s: Settings) -> [u32; 15]
         s.maximum,
         set1,
         set2,
-        s.option,
+        option,
         s.rated,
         tops,
     ]
@@ -93,6 +106,9 @@ pub fn write(layout: u32, s: Settings, buffer: &mut [u32]) -> Verdict
     }
     if layouts::is_long(layout, s) {
         return Verdict::Refused(Refusal::LongValue);
+    }
+    if layouts::loses_homing(layout, s) {
+        return Verdict::Refused(Refusal::HomingTorqueLost);
     }
     let verdict = checks::check(s);
     match verdict {

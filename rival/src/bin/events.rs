@@ -34,7 +34,7 @@ fn tick(t: &Tick) -> Vec<u32> {
 }
 
 /// The fields: each was read within 32 bits, so none is cut down.
-fn fields(s: &Settings) -> [u32; 15] {
+fn fields(s: &Settings) -> [u32; 16] {
     s.values().map(|value| value as u32)
 }
 

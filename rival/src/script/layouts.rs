@@ -1,17 +1,18 @@
-//! Scenes about layouts: which words each has and where it ends, the writer that is told one, and long rails, which only
-//! layout 2 holds.
+//! Scenes about layouts: which words each has and where it ends, the writer that is told one, and long rails, which layout 1
+//! does not hold.
 
 use std::io::Write;
 
-use super::sheets::{is_acceptable, sheet_s, values_of, words_in, LONG_PLACE, PLACE};
+use super::sheets::{is_acceptable, old, sheet_s, words_in, LONG_PLACE, PLACE};
 use super::Script;
 use crate::drive_state::DriveState::*;
+use crate::refusal::Refusal::{self, *};
 use crate::sheet::{self, LAYOUTS};
-use crate::writer::Settings;
+use crate::writer::{faults, two_faults, Settings};
 
 /// Start data and layouts that nobody defined.
-const STRANGE_STARTS: [u32; 4] = [0, 3, sheet::DATA, 1 << 27 | 2];
-const STRANGE_LAYOUTS: [u32; 4] = [0, 3, u32::MAX, 1 << 31 | 1];
+const STRANGE_STARTS: [u32; 4] = [0, 4, sheet::DATA, 1 << 27 | 2];
+const STRANGE_LAYOUTS: [u32; 4] = [0, 4, u32::MAX, 1 << 31 | 1];
 
 /// Buffers around the lengths that layouts need, and at their ends.
 const LENGTHS: [i64; 6] = [0, 14, 15, 16, 17, 32];
@@ -59,14 +60,14 @@ impl<W: Write> Script<W> {
         self.random.pick(&LAYOUTS) | 1 << self.random.between(2, 27)
     }
 
-    /// Acceptable settings that only layout 2 holds, the three places in different parts of the rail.
-    fn any_long_settings(&mut self) -> Settings {
+    /// Acceptable settings that layout 2 holds and layout 1 does not, the three places in different parts of the rail.
+    pub(super) fn any_long_settings(&mut self) -> Settings {
         loop {
             let settings = Settings {
                 offset: self.any_place(),
                 lower_stop: self.any_place(),
                 upper_stop: self.any_place(),
-                ..self.any_settings()
+                ..old(self.any_settings())
             };
             let four_to_one = self.random.between(1, 1 << 18);
             let settings = if self.random.once_in(2) {
@@ -105,68 +106,59 @@ impl<W: Write> Script<W> {
         self.orders();
     }
 
-    fn layout_line(&mut self, layout: u32, length: i64, settings: &Settings) {
-        self.line(&format!("layout {layout} {length} {}", values_of(settings)));
-    }
-
-    /// Faults two by two, in the order in which they are looked for: layout, buffer, long value, range, stops, reach. Then
-    /// all at once.
+    /// Faults two by two, in the order in which they are looked for. Then all at once, and layouts nobody defined with none.
     fn orders(&mut self) {
-        let long = self.any_long_settings();
-        let nearly = self.any_nearly_layout();
-        for layout in STRANGE_LAYOUTS.into_iter().chain([nearly]) {
-            for length in [0, 14, 15, 16] {
-                let slow = self.random.pick(&[0, 1000]);
-                let settings = if self.random.once_in(2) { sheet_s() } else { long.clone() };
-                self.layout_line(layout, length, &Settings { slow, ..settings });
+        let strange = self.random.pick(&STRANGE_LAYOUTS);
+        for layout in LAYOUTS.into_iter().chain([strange]) {
+            for (said, unsaid) in two_faults(layout) {
+                self.faulty_line(layout, &[said, unsaid]);
             }
-            self.layout_line(layout, 16, &long);
-            self.layout_line(layout, 16, &Settings { slow: 0, ..sheet_s() });
+            self.faulty_line(layout, faults(layout));
         }
-        let crossed = Settings { lower_stop: 5, upper_stop: 5, ..sheet_s() };
-        let far = Settings { numerator: 1 << 20, denominator: 1, ..sheet_s() };
-        let far_and_crossed = Settings { lower_stop: 2000, upper_stop: -2000, ..far.clone() };
-        for layout in LAYOUTS {
-            let (short, room) = if layout == 1 { (14, 15) } else { (15, 16) };
-            let out_of_range = self.any_out_of_range();
-            let with = |s: &Settings| Settings {
-                offset: s.offset,
-                lower_stop: s.lower_stop,
-                upper_stop: s.upper_stop,
-                ..out_of_range.clone()
-            };
-            for (length, settings) in [
-                (short, &long),
-                (short, &with(&sheet_s())),
-                (room, &with(&long)),
-                (room, &Settings { upper_stop: long.lower_stop, lower_stop: long.upper_stop, ..sheet_s() }),
-                (room, &Settings { offset: HIGHEST, ..sheet_s() }),
-                (room, &with(&crossed)),
-                (room, &far_and_crossed),
-                (room, &far),
-                (short, &with(&far_and_crossed)),
-                (room, &with(&Settings { offset: LOWEST, ..far_and_crossed.clone() })),
-            ] {
+        let (long, nearly) = (self.any_long_settings(), self.any_nearly_layout());
+        for layout in STRANGE_LAYOUTS.into_iter().chain([nearly]) {
+            for settings in [&sheet_s(), &long] {
+                let length = self.random.pick(&LENGTHS);
                 self.layout_line(layout, length, settings);
             }
         }
     }
 
-    /// Sheet S with one field outside its range.
-    fn any_out_of_range(&mut self) -> Settings {
-        match self.random.between(0, 6) {
-            0 => Settings { method: 36, ..sheet_s() },
-            1 => Settings { fast: 1 << 28, ..sheet_s() },
-            2 => Settings { numerator: 0, ..sheet_s() },
-            3 => Settings { maximum_torque: 3001, ..sheet_s() },
-            4 => Settings { negative_2: 1 << 14, ..sheet_s() },
-            5 => Settings { quick_stop_option: 4, ..sheet_s() },
-            _ => Settings { rated_torque: (1 << 24) + 1, ..sheet_s() },
+    /// Sheet S with these faults.
+    fn faulty_line(&mut self, layout: u32, faults: &[Refusal]) {
+        let room = if layout == 1 { 15 } else { 16 };
+        let (mut length, mut s) = (room, sheet_s());
+        for fault in faults {
+            match fault {
+                ShortBuffer => length = self.random.pick(&[0, 14, room - 1]),
+                LongValue => s.offset = self.random.pick(&[LOWEST, -PLACE - 1, PLACE, HIGHEST]),
+                HomingTorqueLost => s.homing_torque = self.random.pick(&[0, 999, 1001, 3000]),
+                OutOfRange => self.leave_range(&mut s),
+                StopsCrossed => (s.lower_stop, s.upper_stop) = (s.upper_stop, s.lower_stop),
+                OutOfReach => {
+                    (s.numerator, s.denominator) = (1 << 20, 1);
+                    (s.lower_stop, s.upper_stop) = (2 * s.lower_stop, 2 * s.upper_stop);
+                }
+                _ => {}
+            }
+        }
+        self.layout_line(layout, length, &s);
+    }
+
+    /// One field outside its range.
+    fn leave_range(&mut self, s: &mut Settings) {
+        match self.random.between(0, 5) {
+            0 => s.method = 36,
+            1 => s.fast = 1 << 28,
+            2 => s.slow = 0,
+            3 => s.negative_2 = 1 << 14,
+            4 => s.quick_stop_option = 4,
+            _ => s.rated_torque = (1 << 24) + 1,
         }
     }
 
-    /// Kind 14 outside its range, out of turn and twice; ends too early and with wrong sums; strange starts; and starts of the
-    /// other layout at each place halfway.
+    /// Kind 14 outside its range, out of turn and twice; ends too early and with wrong sums; strange starts; and starts of
+    /// layout 1 in layout 2, or the other way round, at each place halfway.
     pub(super) fn layout_words(&mut self) {
         self.reach(SwitchOnDisabled);
         let long = words_in(2, &self.any_long_settings());
@@ -221,14 +213,15 @@ impl<W: Write> Script<W> {
         self.tick();
     }
 
-    /// Sheets that end while the axis is live, in both layouts.
+    /// Sheets that end while the axis is live, in every layout.
     pub(super) fn live_layouts(&mut self) {
         let long = self.any_long_settings();
         for state in [OperationEnabled, QuickStopActive] {
             self.now.command = "torque 5".to_string();
             self.reach(state);
-            self.words(&words_in(1, &sheet_s()));
-            self.words(&words_in(2, &long));
+            for (layout, settings) in [(1, &sheet_s()), (2, &long), (3, &long)] {
+                self.words(&words_in(layout, settings));
+            }
         }
         self.words(&words_in(2, &Settings { lower_stop: HIGHEST, upper_stop: HIGHEST, ..long }));
         self.tick_with(0x0000, "rest", false);

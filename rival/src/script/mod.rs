@@ -2,6 +2,7 @@
 
 mod gears;
 mod homing;
+mod homing_torque;
 mod layouts;
 mod sheets;
 mod states;
@@ -90,6 +91,9 @@ enum Scene {
     LayoutWords,
     LiveLayouts,
     LongRails,
+    HomingCaps,
+    HomingTorqueWords,
+    HomingTorqueLines,
     TakeOverAnywhere,
     Unreadables,
     Wander,
@@ -118,6 +122,9 @@ fn scenes() -> Vec<Scene> {
         Scene::LayoutWords,
         Scene::LiveLayouts,
         Scene::LongRails,
+        Scene::HomingCaps,
+        Scene::HomingTorqueWords,
+        Scene::HomingTorqueLines,
         Scene::TakeOverAnywhere,
         Scene::Unreadables,
         Scene::Wander,
@@ -202,6 +209,9 @@ impl<W: Write> Script<W> {
             Scene::LayoutWords => self.layout_words(),
             Scene::LiveLayouts => self.live_layouts(),
             Scene::LongRails => self.long_rails(),
+            Scene::HomingCaps => self.homing_caps(),
+            Scene::HomingTorqueWords => self.homing_torque_words(),
+            Scene::HomingTorqueLines => self.homing_torque_lines(),
             Scene::TakeOverAnywhere => self.take_over_anywhere(),
             Scene::Unreadables => self.unreadables(),
             Scene::Wander => self.wander(),

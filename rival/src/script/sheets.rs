@@ -27,7 +27,13 @@ pub(super) fn sheet_s() -> Settings {
         negative_2: 300,
         quick_stop_option: 2,
         rated_torque: 2000,
+        homing_torque: 1000,
     }
+}
+
+/// The same as an older layout reads it: homing torque is the maximum.
+pub(super) fn old(settings: Settings) -> Settings {
+    Settings { homing_torque: settings.maximum_torque, ..settings }
 }
 
 /// A field of the settings, and what it may hold at least and at most.
@@ -40,9 +46,10 @@ struct Edge {
 /// In layout 1 offset and stops lie from minus this to one below this.
 pub(super) const PLACE: i64 = 1 << 27;
 
-/// In layout 2 they do so with this.
+/// In the others they do so with this.
 pub(super) const LONG_PLACE: i64 = 1 << 31;
 
+/// Homing torque has scenes of its own.
 const EDGES: [Edge; 15] = [
     Edge { field: |s| &mut s.method, least: 1, most: 35 },
     Edge { field: |s| &mut s.fast, least: 1, most: (1 << 28) - 1 },
@@ -69,14 +76,14 @@ pub(super) fn words_in(layout: u32, settings: &Settings) -> Vec<u32> {
     settings.words(layout).expect("the scene's settings are in range")
 }
 
-/// As a `sheet` line has them.
-pub(super) fn values_of(settings: &Settings) -> String {
-    settings.values().map(|value| value.to_string()).join(" ")
+/// As a `sheet` line has them: all but homing torque.
+fn values_of(settings: &Settings) -> String {
+    settings.values()[..15].iter().map(i64::to_string).collect::<Vec<_>>().join(" ")
 }
 
 /// In range, the stops sound.
 pub(super) fn is_acceptable(settings: &Settings) -> bool {
-    writer::write(2, settings, &mut [0; LONGEST]).is_ok()
+    writer::write(3, settings, &mut [0; LONGEST]).is_ok()
 }
 
 /// Every field at its least or its most, but for the stops: they lie at either end, so as not to cross.
@@ -87,7 +94,7 @@ fn at_edge(least: bool) -> Settings {
     }
     settings.lower_stop = -PLACE;
     settings.upper_stop = PLACE - 1;
-    settings
+    old(settings)
 }
 
 impl<W: Write> Script<W> {
@@ -114,6 +121,7 @@ impl<W: Write> Script<W> {
             ]);
             let width = random.pick(&[50, 1000, 1000, 100_000, PLACE - 1, 1 << 29, LONG_PLACE - 1]);
             let fast = random.between(1, (1 << 28) - 1);
+            let maximum_torque = torque(random);
             let settings = Settings {
                 method: i64::from(random.pick(&METHODS)),
                 fast: random.pick(&[20000, 1, (1 << 28) - 1, fast]),
@@ -123,13 +131,14 @@ impl<W: Write> Script<W> {
                 denominator,
                 lower_stop: random.between(-width, width),
                 upper_stop: random.between(-width, width),
-                maximum_torque: torque(random),
+                maximum_torque,
                 positive_1: torque(random),
                 negative_1: torque(random),
                 positive_2: torque(random),
                 negative_2: torque(random),
                 quick_stop_option: random.pick(&[2, 6]),
                 rated_torque: random.pick(&[1, 2000, 3000, 1000, 12345, 1 << 24]),
+                homing_torque: if random.once_in(2) { maximum_torque } else { torque(random) },
             };
             if is_acceptable(&settings) {
                 return settings;
@@ -143,9 +152,10 @@ impl<W: Write> Script<W> {
         }
     }
 
-    /// The words of settings, in any layout that holds them.
+    /// The words of settings, in any layout that holds them; long ones in the oldest.
     pub(super) fn words_of(&mut self, settings: &Settings) -> Vec<u32> {
-        let layout = if settings.is_long() { 2 } else { self.random.pick(&LAYOUTS) };
+        let holding: Vec<u32> = LAYOUTS.into_iter().filter(|&layout| settings.lost_in(layout).is_none()).collect();
+        let layout = if settings.is_long() { holding[0] } else { self.random.pick(&holding) };
         words_in(layout, settings)
     }
 
@@ -176,17 +186,29 @@ impl<W: Write> Script<W> {
         self.take_over(&settings);
     }
 
+    fn sheet_line(&mut self, length: i64, settings: &Settings) {
+        self.line(&format!("sheet {length} {}", values_of(settings)));
+    }
+
+    /// A homing torque that is the maximum may be left out.
+    pub(super) fn layout_line(&mut self, layout: u32, length: i64, settings: &Settings) {
+        let mut line = format!("layout {layout} {length} {}", values_of(settings));
+        if settings.homing_torque != settings.maximum_torque || self.random.once_in(2) {
+            line += &format!(" {}", settings.homing_torque);
+        }
+        self.line(&line);
+    }
+
     /// By either line where layout 1 is asked.
     pub(super) fn writer(&mut self, layout: u32, length: i64, settings: &Settings) {
-        let values = values_of(settings);
-        if layout == 1 && self.random.once_in(2) {
-            self.line(&format!("sheet {length} {values}"));
+        if layout == 1 && settings.homing_torque == settings.maximum_torque && self.random.once_in(2) {
+            self.sheet_line(length, settings);
         } else {
-            self.line(&format!("layout {layout} {length} {values}"));
+            self.layout_line(layout, length, settings);
         }
     }
 
-    /// The writer in either layout, with so many words more than it needs.
+    /// The writer in any layout, with so many words more than it needs.
     fn write_any(&mut self, more: i64, settings: &Settings) {
         let layout = self.random.pick(&LAYOUTS);
         self.writer(layout, words_in(layout, &sheet_s()).len() as i64 + more, settings);
@@ -208,7 +230,7 @@ impl<W: Write> Script<W> {
                 settings.denominator = 1000;
                 *(edge.field)(&mut settings) = value;
                 let more = self.random.pick(&[0, 0, 0, 1, -1]);
-                self.write_any(more, &settings);
+                self.write_any(more, &old(settings));
             }
         }
         for least in [true, false] {
@@ -237,7 +259,7 @@ impl<W: Write> Script<W> {
                 1 => self.any_settings(),
                 _ => sheet_s(),
             };
-            self.line(&format!("sheet {length} {}", values_of(&settings)));
+            self.sheet_line(length, &settings);
         }
     }
 
@@ -313,7 +335,7 @@ impl<W: Write> Script<W> {
         self.tick();
         self.words(&words); // a start word halfway
         self.words(&words[..3]);
-        self.word(sheet::word(sheet::START, 3));
+        self.word(sheet::word(sheet::START, 4));
         self.words(&words[3..5]);
         self.words(&words[..5]);
         self.word(words[end]); // the end too early
@@ -324,7 +346,7 @@ impl<W: Write> Script<W> {
         self.tick();
     }
 
-    /// Stops just in reach, just out of it, and crossed; the layouts take turns, so that each is refused in both.
+    /// Stops just in reach, just out of it, and crossed; the layouts take turns, so that each is refused in all.
     pub(super) fn reaches(&mut self) {
         self.reach(SwitchOnDisabled);
         let mut layouts = LAYOUTS;
@@ -337,7 +359,7 @@ impl<W: Write> Script<W> {
             upper_stop,
             ..sheet_s()
         });
-        let crossed = [7, 6].map(|upper_stop| Settings { lower_stop: 7, upper_stop, ..sheet_s() });
+        let crossed = [7, 6, -7].map(|upper_stop| Settings { lower_stop: 7, upper_stop, ..sheet_s() });
         for (settings, layout) in far.iter().chain(&crossed).zip(layouts.into_iter().cycle()) {
             let words = words_in(layout, settings);
             self.words(&words);
@@ -413,12 +435,12 @@ impl<W: Write> Script<W> {
     }
 }
 
-/// Offset, gear and stops: in reach by a count, out of it by one, below and above.
+/// Offset, gear and stops: out of reach by a count, below and above, three in a row; then in reach by one.
 const REACHES: [(i64, i64, i64, i64, i64); 6] = [
-    (0, 1 << 20, 1, -1024, 1024),
     (0, 1 << 20, 1, -1025, 1024),
     (0, 1 << 20, 1, -1024, 1025),
-    (-PLACE, 8, 1, -PLACE, 0),
     (-PLACE, 8, 1, -PLACE, 1),
+    (0, 1 << 20, 1, -1024, 1024),
+    (-PLACE, 8, 1, -PLACE, 0),
     (PLACE - 1, 9, 1, -PLACE, PLACE - 1),
 ];

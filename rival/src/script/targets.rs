@@ -2,7 +2,7 @@
 
 use std::io::Write;
 
-use super::sheets::sheet_s;
+use super::sheets::{old, sheet_s};
 use super::Script;
 use crate::drive_state::DriveState::*;
 use crate::hybrid::Hybrid;
@@ -135,7 +135,7 @@ impl<W: Write> Script<W> {
 
     /// Requests at, inside and beyond the limits of both sets, under sheets where now the set and now the maximum holds.
     pub(super) fn request_torques(&mut self) {
-        let low_maximum = Settings { maximum_torque: 250, ..sheet_s() };
+        let low_maximum = old(Settings { maximum_torque: 250, ..sheet_s() });
         for settings in [sheet_s(), low_maximum, self.any_settings()] {
             self.take_over(&settings);
             self.now.command = "torque 0".to_string();
@@ -177,7 +177,7 @@ impl<W: Write> Script<W> {
             self.reach(OperationEnabled);
             self.tick_with(0x000F, &format!("hybrid {floats}"), true);
         }
-        let wide = Settings { maximum_torque: 3000, positive_1: 3000, negative_1: 3000, ..sheet_s() };
+        let wide = old(Settings { maximum_torque: 3000, positive_1: 3000, negative_1: 3000, ..sheet_s() });
         let rated_torque = self.random.pick(&[1, 12345, 1 << 24]);
         self.take_over(&Settings { rated_torque, ..wide.clone() });
         self.any_hybrids();

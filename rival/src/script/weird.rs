@@ -15,10 +15,12 @@ const SHEET: &str = "sheet 15 23 20000 1000 0 3 2 -1000 1000 1000 800 600 300 30
 
 const LAYOUT: &str = "layout 2 16 23 20000 1000 0 3 2 -2147483648 2147483647 1000 800 600 300 300 2 2000";
 
-const LINES: [&str; 7] = [TICK, TICK_HYBRID, TICK_POSITION, TICK_HOMING, WORD, SHEET, LAYOUT];
+const LAYOUT_HOMING: &str = "layout 3 16 23 20000 1000 0 3 2 -1000 1000 1000 800 600 300 300 2 2000 250";
+
+const LINES: [&str; 8] = [TICK, TICK_HYBRID, TICK_POSITION, TICK_HOMING, WORD, SHEET, LAYOUT, LAYOUT_HOMING];
 
 /// A line, the place of one of its words, and words that are not accepted there.
-const WRONG: [(&str, usize, &[&str]); 20] = [
+const WRONG: [(&str, usize, &[&str]); 21] = [
     (TICK, 0, &["Tick", "ticks", "help", "\u{0}tick", "tick\u{b5}", "tick\r", "-", "TICK"]),
     (WORD, 1, &["0000000g", "123456789", "0x1", "-1", "000000001", "1h"]),
     (TICK, 1, &["00006", "12345", "xyz", "-6", "+6", "6."]),
@@ -39,6 +41,7 @@ const WRONG: [(&str, usize, &[&str]); 20] = [
     (LAYOUT, 0, &["Layout", "layouts", "layou", "LAYOUT"]),
     (LAYOUT, 1, &["-1", "-0", "4294967296", "00000000002", "two", "+2", "0x2", "2.0"]),
     (LAYOUT, 2, &["33", "-1", "4294967296", "x"]),
+    (LAYOUT_HOMING, 18, &["-1", "-0", "4294967296", "00000000250", "x", "+250", "250.0"]),
 ];
 
 /// Signed and unsigned places further on in a `sheet` line, and one further in a `layout` line.
@@ -46,7 +49,7 @@ const WRONG_SETTINGS: [(usize, &str); 6] =
     [(5, "2147483648"), (5, "-2147483649"), (8, "-99999999999"), (9, "4294967296"), (10, "-5"), (16, "18446744073709551616")];
 
 /// Lines that look odd and are read all the same, by what the layout says.
-const ODD: [&[u8]; 15] = [
+const ODD: [&[u8]; 17] = [
     b"",
     b" ",
     b"\t \t",
@@ -60,6 +63,8 @@ const ODD: [&[u8]; 15] = [
     b"layout 4294967295 0 0 0 0 0 0 0 0 0 0 0 0 0 0 0 0",
     b"layout\t0000000002 0000000016 35 1 1 -0 1 4 -2147483648 2147483647 0 0 0 0 0 2 1 # long",
     b"layout 1 32 35 1 1 -134217729 1 4 -2147483648 2147483647 0 0 0 0 0 2 1",
+    b"layout 3 16 35 1 1 0 1 4 -1 1 3000 0 0 0 0 6 1\t0000003000 # and no more",
+    b"layout 2 16 35 1 1 0 1 4 -1 1 5 0 0 0 0 6 1 4294967295#",
     b"\r",
     b"\x0b",
 ];
@@ -147,6 +152,7 @@ impl<W: Write> Script<W> {
             self.cut_short(LAYOUT, words);
         }
         self.one_too_many("fresh");
+        self.emit(format!("{SHEET} 1000").as_bytes(), b"\n"); // a homing torque, but not here
         for odd in ODD {
             let end = self.random.pick(&[&b"\n"[..], b"\r\n"]);
             self.emit(odd, end);

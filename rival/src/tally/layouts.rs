@@ -1,20 +1,20 @@
-//! Layouts: where each begins and ends, what only layout 2 holds, and the writer that is told one.
+//! Layouts: where each begins and ends, what layout 1 does not hold, and the writer that is told one.
 
-use super::Tally;
+use super::{words, Tally};
 use crate::gear;
 use crate::lines::Unreadable;
 use crate::refusal::Refusal::{self, *};
 use crate::sheet::{self, Sheet, LAYOUTS};
-use crate::writer::Settings;
+use crate::writer::{two_faults, Settings};
 
 /// Start data that no layout has.
-const STRANGE_STARTS: [u32; 3] = [0, 3, sheet::DATA];
+const STRANGE_STARTS: [u32; 3] = [0, 4, sheet::DATA];
 
 /// Of kind 14's bits that must be zero, the first and the last.
 const SPARE_BITS: [u32; 2] = [12, 27];
 
 /// Layouts that a line asks for.
-const ASKED: [u32; 5] = [0, 1, 2, 3, u32::MAX];
+const ASKED: [u32; 6] = [0, 1, 2, 3, 4, u32::MAX];
 
 const LENGTHS: [usize; 6] = [0, 14, 15, 16, 17, 32];
 
@@ -23,28 +23,16 @@ const PLACES: [&str; 3] = ["offset", "lower stop", "upper stop"];
 /// The last places of 28 bits and the first beyond, then the last of 32.
 const PLACE_EDGES: [i64; 6] = [-(1 << 27) - 1, -(1 << 27), (1 << 27) - 1, 1 << 27, -(1 << 31), (1 << 31) - 1];
 
-/// Two faults at once, the one that is said and the one that is not: for a layout nobody defined (0), layout 1 and layout 2.
-const ORDERS: [(u32, u8, u8); 12] = [
-    (0, 2, 9),
-    (0, 2, 10),
-    (0, 2, 3),
-    (1, 9, 10),
-    (1, 9, 3),
-    (1, 10, 3),
-    (1, 10, 5),
-    (1, 3, 5),
-    (1, 5, 6),
-    (2, 9, 3),
-    (2, 3, 5),
-    (2, 5, 6),
-];
+/// Kinds that are due where layout 3 is left for another or begun in its place: first, and right before and after kind 12.
+const CHANGES: [u32; 3] = [1, 12, 13];
 
-const SINGLE: [&str; 25] = [
+const SINGLE: [&str; 27] = [
     "layout 1: kind 14 where the end is due",
     "layout 1: kind 14 too early",
     "layout 2: kind 14 too early",
     "layout 2: kind 14 twice",
     "layout 2: the end where kind 14 is due",
+    "layout 3: the end where kind 14 is due",
     "layout 2: bad sum, kind 14 left out",
     "layout 2: bad sum, the start counted as layout 1's",
     "layout 2: out of reach, in reach by a difference of 32 bits",
@@ -64,6 +52,7 @@ const SINGLE: [&str; 25] = [
     "layout line unreadable: LAYOUT wrong",
     "layout line unreadable: LENGTH wrong",
     "layout line unreadable: a field wrong",
+    "layout line unreadable: HOMING wrong",
     "layout line unreadable: one word too many",
 ];
 
@@ -83,9 +72,10 @@ pub(super) fn names() -> Vec<String> {
     }
     names.extend(SPARE_BITS.map(|bit| format!("kind 14: bit {bit} alone")));
     for layout in LAYOUTS {
-        let other = 3 - layout;
-        let due = sheet::kinds(layout).unwrap_or_default().iter().skip(1);
-        names.extend(due.map(|due| format!("layout {layout}: start of layout {other} with kind {due} due")));
+        for other in LAYOUTS.into_iter().filter(|&other| other != layout) {
+            let due = sheet::kinds(layout).unwrap_or_default().iter().filter(|&&due| can_change(layout, other, due));
+            names.extend(due.map(|due| format!("layout {layout}: start of layout {other} with kind {due} due")));
+        }
         let by_end = [BadSum, StopsCrossed, OutOfReach, AxisLive];
         names.extend(by_end.map(|refusal| format!("layout {layout}: end word refused {}", refusal.number())));
         names.extend(LAYOUTS.map(|earlier| format!("layout {layout} taken over after layout {earlier}")));
@@ -102,13 +92,25 @@ pub(super) fn names() -> Vec<String> {
     }
     names.extend(ASKED.map(|layout| format!("layout line: layout {layout}")));
     names.extend(["LAYOUT", "LENGTH", "a field"].map(|what| format!("layout line unreadable: {what} missing")));
-    names.extend(ORDERS.map(|(layout, said, unsaid)| order(layout, said, unsaid)));
+    for layout in LAYOUTS.into_iter().chain([0]) {
+        names.extend(two_faults(layout).into_iter().map(|(said, unsaid)| order(layout, said, unsaid)));
+    }
     names
 }
 
-fn order(layout: u32, said: u8, unsaid: u8) -> String {
+/// Whether a start of the other layout is to be seen where this kind is due.
+fn can_change(layout: u32, other: u32, due: u32) -> bool {
+    if layout == 3 || other == 3 {
+        CHANGES.contains(&due)
+    } else {
+        due != sheet::START
+    }
+}
+
+/// Layouts nobody defined are 0 here.
+fn order(layout: u32, said: Refusal, unsaid: Refusal) -> String {
     let layout = if layout == 0 { "no layout".to_string() } else { format!("layout {layout}") };
-    format!("layout line, {layout}: {said} said before {unsaid}")
+    format!("layout line, {layout}: {} said before {}", said.number(), unsaid.number())
 }
 
 /// Whether a stop is in reach by the low 32 bits of its difference, or by all of it.
@@ -125,18 +127,20 @@ fn both_in_reach(s: &Settings, cut: bool) -> bool {
 
 /// Everything that the writer could refuse, in the order in which it is said; where nobody defined the layout, as if it were
 /// layout 1.
-fn faults(layout: u32, length: usize, s: &Settings) -> Vec<u8> {
+fn faults(layout: u32, length: usize, s: &Settings) -> Vec<Refusal> {
     let defined = LAYOUTS.contains(&layout);
-    let room = if layout == 2 { 16 } else { 15 };
+    let like = if defined { layout } else { 1 };
+    let room = if like == 1 { 15 } else { 16 };
     let faults = [
-        (2, !defined),
-        (9, length < room),
-        (10, layout != 2 && s.is_long()),
-        (3, s.words(2).is_none()),
-        (5, s.lower_stop >= s.upper_stop),
-        (6, !both_in_reach(s, false)),
+        (StrangeLayout, !defined),
+        (ShortBuffer, length < room),
+        (LongValue, like == 1 && s.is_long()),
+        (HomingTorqueLost, like != 3 && s.homing_torque != s.maximum_torque),
+        (OutOfRange, s.words(3).is_none()),
+        (StopsCrossed, s.lower_stop >= s.upper_stop),
+        (OutOfReach, !both_in_reach(s, false)),
     ];
-    faults.into_iter().filter(|&(_, there)| there).map(|(number, _)| number).collect()
+    faults.into_iter().filter(|&(_, there)| there).map(|(refusal, _)| refusal).collect()
 }
 
 fn settings_of(sheet: &Sheet) -> Settings {
@@ -161,14 +165,14 @@ impl Tally {
         let Some(layout) = layout else {
             return;
         };
-        let other = kind == sheet::START && heard.is_ok() && data != layout;
+        let other = kind == sheet::START && heard.is_ok() && data != layout && can_change(layout, data, due);
         self.saw_if(other, &format!("layout {layout}: start of layout {data} with kind {due} due"));
         match (layout, kind) {
             (1, sheet::TOP_BITS) if due == sheet::END => self.saw("layout 1: kind 14 where the end is due"),
             (2, sheet::TOP_BITS) if due == sheet::END => self.saw("layout 2: kind 14 twice"),
-            (_, sheet::TOP_BITS) if due != kind => self.saw(&format!("layout {layout}: kind 14 too early")),
-            (2, sheet::END) if due == sheet::TOP_BITS && data == sheet::sum(run) => {
-                self.saw("layout 2: the end where kind 14 is due");
+            (1 | 2, sheet::TOP_BITS) if due != kind => self.saw(&format!("layout {layout}: kind 14 too early")),
+            (_, sheet::END) if due == sheet::TOP_BITS && data == sheet::sum(run) => {
+                self.saw(&format!("layout {layout}: the end where kind 14 is due"));
             }
             _ => {}
         }
@@ -182,6 +186,7 @@ impl Tally {
                 self.saw_refused_end(run, word, refusal);
             }
         }
+        self.saw_option_word(layout, run, word, heard);
     }
 
     fn saw_refused_end(&mut self, run: &[u32], end: u32, refusal: Refusal) {
@@ -209,8 +214,10 @@ impl Tally {
         if let Some(left) = self.left {
             self.saw(&format!("layout {layout} taken over, layout {left} left halfway"));
         }
-        if layout == 2 {
-            self.saw_places(sheet);
+        match layout {
+            2 => self.saw_places(sheet),
+            3 => self.saw_homing_torque(sheet),
+            _ => {}
         }
     }
 
@@ -244,7 +251,7 @@ impl Tally {
         if let Some((&said, unsaid)) = faults.split_first() {
             let layout = if defined { layout } else { 0 };
             for &unsaid in unsaid {
-                self.saw_if(ORDERS.contains(&(layout, said, unsaid)), &order(layout, said, unsaid));
+                self.saw(&order(layout, said, unsaid));
             }
         }
         if !defined {
@@ -254,14 +261,14 @@ impl Tally {
         let long = settings.is_long();
         if layout == 2 {
             self.saw_if(long && faults.is_empty(), "layout line, layout 2: a long value written");
-            self.saw_if(long && faults == [9], "layout line, layout 2: a long value, but a short buffer");
-            let cut = faults == [6] && both_in_reach(settings, true);
+            self.saw_if(long && faults == [ShortBuffer], "layout line, layout 2: a long value, but a short buffer");
+            let cut = faults == [OutOfReach] && both_in_reach(settings, true);
             self.saw_if(cut, "layout line, layout 2: out of reach, in reach by a difference of 32 bits");
         }
         let places = [settings.offset, settings.lower_stop, settings.upper_stop];
         for (at, name) in PLACES.into_iter().enumerate() {
             let others = (0..3).filter(|&other| other != at).any(|other| sheet::is_long(places[other]));
-            if !others && !faults.contains(&9) && PLACE_EDGES.contains(&places[at]) {
+            if !others && !faults.contains(&ShortBuffer) && PLACE_EDGES.contains(&places[at]) {
                 self.saw(&format!("layout line, layout {layout}: {name} {}, no other long", places[at]));
             }
         }
@@ -272,8 +279,7 @@ impl Tally {
         let Unreadable::Expected { column, .. } = unreadable else {
             return;
         };
-        let accepted = &before_comment[..column - 1];
-        let mut words = accepted.split(|&byte| byte == b' ' || byte == b'\t').filter(|word| !word.is_empty());
+        let mut words = words(&before_comment[..column - 1]);
         if words.next() != Some(b"layout") {
             return;
         }
@@ -282,6 +288,7 @@ impl Tally {
             0 => self.saw(&format!("layout line unreadable: LAYOUT {how}")),
             1 => self.saw(&format!("layout line unreadable: LENGTH {how}")),
             2..=16 => self.saw(&format!("layout line unreadable: a field {how}")),
+            17 => self.saw("layout line unreadable: HOMING wrong"),
             _ => self.saw("layout line unreadable: one word too many"),
         }
     }

@@ -1,10 +1,10 @@
 //! Everything a script is to reach, by name.
 
 use super::gears::{BY_BOTH, EDGES as GEAR_EDGES, ON_EDGE, ON_LONG_RAILS};
-use super::layouts;
 use super::refused;
 use super::settings::{can_hold, EDGES, FIELDS, INNER_METHODS};
 use super::text::{EXPECTED, FLOAT_SHAPES};
+use super::{homing_torque, layouts};
 use crate::control_word::DriveCommand::*;
 use crate::drive_state::DriveState::{self, *};
 use crate::homing::failing_legs;
@@ -170,6 +170,7 @@ pub(super) fn names() -> Vec<String> {
     names.extend(homing());
     names.extend(gears());
     names.extend(layouts::names());
+    names.extend(homing_torque::names());
     names
 }
 
@@ -194,7 +195,7 @@ fn texts() -> Vec<String> {
 
 fn refusals() -> Vec<String> {
     let by_word = [OutOfTurn, StrangeLayout, OutOfRange, BadSum, StopsCrossed, OutOfReach, AxisLive];
-    let by_writer = [StrangeLayout, ShortBuffer, LongValue, OutOfRange, StopsCrossed, OutOfReach];
+    let by_writer = [StrangeLayout, ShortBuffer, LongValue, HomingTorqueLost, OutOfRange, StopsCrossed, OutOfReach];
     let mut names: Vec<String> = by_word.map(|refusal| refused("word", refusal)).into();
     names.extend(by_word.map(|refusal| format!("word: due before refusal {}, out of turn after it", refusal.number())));
     names.push(refused("tick", NoSheet));

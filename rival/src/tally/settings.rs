@@ -8,7 +8,7 @@ use crate::sheet::{self, Sheet};
 use crate::writer::{self, Settings};
 
 /// A setting, and the least and the most it may be; for places that is what layout 1 holds.
-pub(super) const FIELDS: [(&str, i64, i64); 15] = [
+pub(super) const FIELDS: [(&str, i64, i64); 16] = [
     ("method", 1, 35),
     ("fast", 1, (1 << 28) - 1),
     ("slow", 1, (1 << 28) - 1),
@@ -24,10 +24,11 @@ pub(super) const FIELDS: [(&str, i64, i64); 15] = [
     ("negative limit 2", 0, 3000),
     ("quick stop option", 2, 6),
     ("rated torque", 1, 1 << 24),
+    ("homing torque", 0, 3000),
 ];
 
-/// Which field of the sheet a word's data lies in, and its value; the limit sets hold two, and in layout 2 a place is no one
-/// word's.
+/// Which field of the sheet a word's data lies in, and its value; the limit sets hold two, and so does kind 12 in layout 3.
+/// From layout 2 on a place is no one word's.
 fn carried(layout: u32, kind: u32, data: u32) -> Vec<(usize, i64)> {
     let value = i64::from(data);
     match kind {
@@ -39,6 +40,7 @@ fn carried(layout: u32, kind: u32, data: u32) -> Vec<(usize, i64)> {
         }
         sheet::LIMIT_SET_1 => vec![(9, value & 0x3FFF), (10, value >> 14)],
         sheet::LIMIT_SET_2 => vec![(11, value & 0x3FFF), (12, value >> 14)],
+        sheet::QUICK_STOP_OPTION if layout == 3 => vec![(13, value & 0xFF), (15, value >> 8)],
         sheet::QUICK_STOP_OPTION => vec![(13, value)],
         sheet::RATED_TORQUE => vec![(14, value)],
         _ => vec![],
@@ -127,7 +129,7 @@ impl Tally {
         if let Err(refusal) = written {
             self.saw(&refused("writer", refusal));
             self.saw_if(
-                refusal == Refusal::ShortBuffer && settings.words(2).is_none(),
+                refusal == Refusal::ShortBuffer && settings.words(3).is_none(),
                 "writer: short buffer said before out of range",
             );
         }

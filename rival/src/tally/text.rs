@@ -1,6 +1,6 @@
 //! Lines as text: ends, comments, lengths, and what was expected where.
 
-use super::{bytes, Tally};
+use super::{before_comment, bytes, words, Tally};
 use crate::lines::{Line, Text, Unreadable, LONGEST};
 
 pub(super) const EXPECTED: [&str; 10] = [
@@ -79,11 +79,11 @@ impl Tally {
         match read {
             Err(Unreadable::TooLong) => self.saw("unreadable: line too long"),
             Err(unreadable @ Unreadable::Expected { column, what }) => {
-                let bytes = bytes(text).unwrap_or_default();
-                let before = bytes.split(|&byte| byte == b'#').next().unwrap_or_default();
+                let before = before_comment(text);
                 let how = if *column > before.len() { "missing" } else { "wrong" };
                 self.saw(&format!("unreadable: {what}, {how}"));
                 self.saw_unreadable_layout(before, unreadable);
+                self.saw_unreadable_sheet(before, *column);
             }
             Ok(_) => {}
         }
@@ -104,7 +104,7 @@ impl Tally {
         self.saw_if(before.contains(&0), "text: NUL in a word");
         self.saw_if(before.iter().any(|&byte| byte >= 0x80), "text: high byte in a word");
         self.saw_if(before.contains(&b'\r'), "text: CR in a word");
-        let mut words = before.split(|&byte| byte == b' ' || byte == b'\t').filter(|word| !word.is_empty());
+        let mut words = words(before);
         if words.any(|word| word == b"hybrid") {
             for shape in words.take(7).filter_map(float_shape) {
                 self.saw(&format!("float: {shape}"));

@@ -2,7 +2,7 @@
 
 use super::{refused, Stretch, Tally};
 use crate::axis::Axis;
-use crate::command::Command;
+use crate::command::{Command, HOMING_MODE};
 use crate::control_word::{ControlWord, FAULT_RESET, HALT, HOMING_START};
 use crate::drive_state::DriveState::{self, *};
 use crate::gear;
@@ -72,7 +72,7 @@ impl Tally {
         self.saw_start(tick, &before);
         self.saw_homing(tick, &before);
         self.saw_target(tick, &sheet, &answer);
-        self.saw_torque(tick, &sheet, &answer);
+        self.saw_torque(tick, &sheet, &answer, &before);
         self.saw_remembered(tick, &before);
         self.switches = tick.switches;
         self.stretch = self.stretch_after(tick, &before);
@@ -101,6 +101,8 @@ impl Tally {
             QuickStopActive => {
                 let (how, option) = (if tick.standstill { "still" } else { "moving" }, sheet.quick_stop_option());
                 self.saw(&format!("QuickStopActive: {command}, {how}, option {option}"));
+                let left = after != QuickStopActive && command != "DisableVoltage";
+                self.saw_if(left && sheet.layout() == 3, &format!("layout 3: option {option} leaves quick stop"));
             }
             Fault if rises => self.saw("Fault: bit 7 rises, no alarm"),
             Fault if tick.control.has(FAULT_RESET) => self.saw("Fault: bit 7 held, no alarm"),
@@ -338,8 +340,8 @@ impl Tally {
         }
     }
 
-    fn saw_torque(&mut self, tick: &Tick, sheet: &Sheet, answer: &Answer) {
-        if !self.axis.state().is_live() || !self.matched(tick) {
+    fn saw_torque(&mut self, tick: &Tick, sheet: &Sheet, answer: &Answer, before: &Before) {
+        if !self.axis.state().is_live() {
             return;
         }
         let demand = match tick.command {
@@ -348,16 +350,24 @@ impl Tally {
             Command::Position { request, .. } => request.into(),
             Command::Rest => 0,
         };
+        if !self.matched(tick) {
+            self.saw_unmatched(tick, demand);
+            return;
+        }
+        self.saw_cap(tick, sheet, before.mode, demand, answer.torque);
         let set = if tick.limit_set == LimitSet::Set1 { "set 1" } else { "set 2" };
         let maximum = sheet.maximum_torque();
+        // In mode 6 homing torque may hold where neither limit nor maximum does.
+        let lesser = if self.axis.shown_mode() == HOMING_MODE { maximum.min(sheet.homing_torque()) } else { maximum };
         let (positive, negative) = (sheet.positive_limit(tick.limit_set), sheet.negative_limit(tick.limit_set));
         let torque = answer.torque;
         self.saw_if(torque == demand && torque != 0, "torque: the demand itself");
-        self.saw_if(torque == demand && torque > 0 && torque == positive.min(maximum), "torque: the demand on its limit");
-        self.saw_if(demand > torque && positive < maximum, &format!("torque: positive limit of {set} holds"));
-        self.saw_if(demand < torque && negative < maximum, &format!("torque: negative limit of {set} holds"));
-        self.saw_if(demand > torque && maximum < positive, "torque: maximum holds above");
-        self.saw_if(demand < torque && maximum < negative, "torque: maximum holds below");
+        self.saw_if(torque == demand && torque > 0 && torque == positive.min(lesser), "torque: the demand on its limit");
+        self.saw_if(demand > torque && positive < lesser, &format!("torque: positive limit of {set} holds"));
+        self.saw_if(demand < torque && negative < lesser, &format!("torque: negative limit of {set} holds"));
+        let by_maximum = lesser == maximum;
+        self.saw_if(by_maximum && demand > torque && maximum < positive, "torque: maximum holds above");
+        self.saw_if(by_maximum && demand < torque && maximum < negative, "torque: maximum holds below");
         self.saw_if(self.axis.state() == QuickStopActive && torque != 0, "torque: in quick stop");
         self.saw_if(demand == -32768, "torque: request -32768");
         self.saw_if(demand == 32767, "torque: request 32767");

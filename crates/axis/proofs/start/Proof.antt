@@ -9,8 +9,8 @@ use borrow.Author.Needs.{needs}
 use Rattle.axis.proofs.start.Statement.{statement}
 use Rattle.axis.proofs.start.Tie as tie
 
-field-ok-requires : tie.Need-field-ok-requires
-field-ok-requires c κs = search needs
+is-layout-requires : tie.Need-is-layout-requires
+is-layout-requires c κs = search needs
 
 begin-requires : tie.Need-begin-requires
 begin-requires c κs = search needs
@@ -22,13 +22,13 @@ returns : tie.Need-returns
 unfolding startRead
 returns c =
     let t = c .before .before in
-    rw (sym (t .before .field-ok .ensures) ∙ t .if1 .taken) (kept-word _ _ false (started _) (c .begin .ensures))
+    rw (sym (t .before .is-layout .ensures) ∙ t .if1 .taken) (kept-word _ _ false (started _) (c .begin .ensures))
 
 returns-2 : tie.Need-returns-2
 unfolding startRead
 returns-2 c =
     let t = c .before .before in
-    rw (sym (t .before .field-ok .ensures) ∙ t .if1 .left) (refused-word _ _ false UnknownLayout (c .empty .ensures))
+    rw (sym (t .before .is-layout .ensures) ∙ t .if1 .left) (refused-word _ _ false UnknownLayout (c .empty .ensures))
 
 pub start-spec : {M : Type 1} → statement M
-start-spec = tie.close (tie.spec field-ok-requires begin-requires empty-requires returns returns-2)
+start-spec = tie.close (tie.spec is-layout-requires begin-requires empty-requires returns returns-2)

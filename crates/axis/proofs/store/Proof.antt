@@ -27,15 +27,15 @@ returns c =
     let t = c .before .before in
     let b = t .before .before in
     let p = pendingIn (b .args .axis .now) in
-    let k = more-due p (b .args .kind) (b .args .value) (b .pre .0) (b .pre .1) in
-    rw (sym (t .before .field-ok .ensures) ∙ t .if1 .taken)
+    let k = more-due p (b .args .kind) (b .args .value) (b .pre .1) (b .pre .2) in
+    rw (sym (b .pre .0), sym (t .before .field-ok .ensures) ∙ t .if1 .taken)
     (kept-word _ _ false (kept p (b .args .kind) (b .args .value)) (subst (λ (q : Pending). Pends (b .args .axis .now) q (c .append .last .0)) k (c .append .ensures)))
 
 returns-2 : tie.Need-returns-2
 unfolding fieldRead
 returns-2 c =
     let t = c .before .before in
-    rw (sym (t .before .field-ok .ensures) ∙ t .if1 .left) (refused-word _ _ false OutOfRange (c .empty .ensures))
+    rw (sym (t .before .before .pre .0), sym (t .before .field-ok .ensures) ∙ t .if1 .left) (refused-word _ _ false OutOfRange (c .empty .ensures))
 
 pub store-spec : {M : Type 1} → statement M
 store-spec = tie.close (tie.spec field-ok-requires append-requires empty-requires returns returns-2)

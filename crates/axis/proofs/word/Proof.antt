@@ -46,7 +46,8 @@ store-requires c κs =
     let f = c .before in
     let t = f .before in
     let b = t .before .before .before .before .before .before .before .args in
-    (omega (arith, f .if3 .taken), due-field (pendingIn (b .axis .now)) (kindOf (b .word)) (came t) (λ e. omega (arith, e, f .if3 .taken)) .0)
+    let kind = due-field (pendingIn (b .axis .now)) (kindOf (b .word)) (came t) (λ e. omega (arith, e, f .if3 .taken)) in
+    (t .before .before .before .before .layout .ensures, omega (arith, f .if3 .taken), kind .0)
 
 finish-requires : tie.Need-finish-requires
 finish-requires c κs =

@@ -36,7 +36,7 @@ returns : tie.Need-returns
 returns c =
     let b = c .before in
     let l = b .before .before .before .args .axis .now in
-    rw (lt-ltb _ 15 (c .if1 .taken)) (stored-value l (b .before .lent .ensures) (wordAt l 22) _ (c .if1 .taken) refl)
+    rw (lt-ltb _ 15 (c .if1 .taken)) (stored-value l (b .before .lent .ensures) (wordAt l 23) _ (c .if1 .taken) refl)
 
 returns-2 : tie.Need-returns-2
 returns-2 c = rw (le-ltb _ 15 (c .if1 .left)) unchanged

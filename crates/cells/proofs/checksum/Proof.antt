@@ -14,7 +14,7 @@ use Rattle.cells.proofs.checksum.Statement.{statement}
 use Rattle.cells.proofs.checksum.Tie as tie
 
 abbrev Inv-loop : tie.InvT-loop
-Inv-loop axis total₀ i₀ total i = (i ≤ 14) × (total ≡ (total₀ + Encode.total (cellsFrom 23 i axis)) % 2 ^ 32)
+Inv-loop axis total₀ i₀ total i = (i ≤ 14) × (total ≡ (total₀ + Encode.total (cellsFrom 24 i axis)) % 2 ^ 32)
 
 abbrev μ-loop : tie.MeasureT-loop
 μ-loop axis total₀ i₀ total i = 14 - i
@@ -47,7 +47,7 @@ loop-less c = omega arith
 loop-again : tie.Need-loop-again Inv-loop μ-loop
 loop-again c =
     let b = c .before .before .before in
-    let t = summed (b .before .before .args .axis .now) 23 (b .loop .i) in
+    let t = summed (b .before .before .args .axis .now) 24 (b .loop .i) in
     (omega arith, rw add-one (omega (arith, t, c .wrapping-add-u32 .ensures, b .loop .inv .1)))
 
 returns : tie.Need-returns Inv-loop μ-loop
@@ -57,8 +57,8 @@ returns c =
     let k = b .before in
     let l = k .before .args .axis .now in
     let i : b .loop .i ≡ 14 = omega arith in
-    let t : b .loop .total ≡ (valueIn l 14 + Encode.total (cellsFrom 23 14 l)) % 2 ^ 32 =
-    b .loop .inv .1 ∙ ap₂ (λ (x n : ℕ). (x + Encode.total (cellsFrom 23 n l)) % 2 ^ 32) (k .tops .ensures) i in
+    let t : b .loop .total ≡ (valueIn l 14 + Encode.total (cellsFrom 24 14 l)) % 2 ^ 32 =
+    b .loop .inv .1 ∙ ap₂ (λ (x n : ℕ). (x + Encode.total (cellsFrom 24 n l)) % 2 ^ 32) (k .tops .ensures) i in
     omega (arith, t)
 
 pub checksum-spec : {M : Type 1} → statement M

@@ -20,7 +20,7 @@ returns c = rw (c .if1 .taken)
 returns-2 : tie.Need-returns-2
 returns-2 c =
     let t = c .before in
-    let n = wordAt (t .before .before .args .axis .now) 22 in
+    let n = wordAt (t .before .before .args .axis .now) 23 in
     let h : 0 < n = omega (arith, t .if1 .left) in
     rw (lt-ltb 0 n h)
 

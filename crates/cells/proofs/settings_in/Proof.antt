@@ -26,12 +26,18 @@ signed-requires-3 c κs = search needs
 active-values-requires : tie.Need-active-values-requires
 active-values-requires c κs = search needs
 
+element-copy-out-decode-with : tie.Need-element-copy-out-decode-with
+element-copy-out-decode-with c = search needs
+
+element-copy-out-decode-with-2 : tie.Need-element-copy-out-decode-with-2
+element-copy-out-decode-with-2 c = search needs
+
 decode-with-requires : tie.Need-decode-with-requires
 decode-with-requires c κs = search needs
 
 returns : tie.Need-returns
 returns c =
-    let v = c .before in
+    let v = c .before .before .before in
     let u = v .before in
     let l = u .before .before in
     let o = l .before .before in
@@ -57,5 +63,7 @@ settings-in-spec =
     element-copy-out-signed-3
     signed-requires-3
     active-values-requires
+    element-copy-out-decode-with
+    element-copy-out-decode-with-2
     decode-with-requires
     returns)

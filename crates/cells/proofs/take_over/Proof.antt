@@ -1,4 +1,4 @@
--- `cells::take_over` meets its contract: the values are copied, and the three positions stored over theirs.
+-- `cells::take_over` meets its contract: the values are copied, and what is given is stored over them.
 -- Assumes nothing.
 use mathlib.Core.Path.{ap, _∙_}
 use mir.Facts.{toZ-ofZ}
@@ -38,6 +38,12 @@ element-write-axis-4 c = search needs
 element-write-axis-5 : tie.Need-element-write-axis-5
 element-write-axis-5 c = search needs
 
+element-write-axis-6 : tie.Need-element-write-axis-6
+element-write-axis-6 c = search needs
+
+element-write-axis-7 : tie.Need-element-write-axis-7
+element-write-axis-7 c = search needs
+
 returns : tie.Need-returns
 returns c =
     let l = c .before .before in
@@ -50,7 +56,7 @@ returns c =
       c .before .pattern2 .ensures ∙ ap (modulo 32) (toZ-ofZ (b .fits .lower)),
       c .pattern3 .ensures ∙ ap (modulo 32) (toZ-ofZ (b .fits .upper)),
     )
-    (taken-over (x .axis .now) (v .before .before .lent .ensures) (x .offset) (x .lower) (x .upper) (search needs) (search needs) (search needs))
+    (taken-over (x .axis .now) (v .before .before .lent .ensures) (x .offset) (x .lower) (x .upper) (x .option) (x .homing) (search needs) (search needs) (search needs))
 
 pub take-over-spec : {M : Type 1} → statement M
 take-over-spec =
@@ -66,4 +72,6 @@ take-over-spec =
     pattern-requires-3
     element-write-axis-4
     element-write-axis-5
+    element-write-axis-6
+    element-write-axis-7
     returns)

@@ -37,8 +37,8 @@ torque-limits-ok-requires c κs = search needs
 torque-limits-ok-requires-2 : tie.Need-torque-limits-ok-requires-2
 torque-limits-ok-requires-2 c κs = search needs
 
-option-ok-requires : tie.Need-option-ok-requires
-option-ok-requires c κs = search needs
+option-data-ok-requires : tie.Need-option-data-ok-requires
+option-data-ok-requires c κs = search needs
 
 rated-ok-requires : tie.Need-rated-ok-requires
 rated-ok-requires c κs = search needs
@@ -93,7 +93,7 @@ returns-12 c = rw (c .before .match .keys12, c .torque-limits-ok2 .ensures)
 
 returns-13 : tie.Need-returns-13
 unfolding fieldOk
-returns-13 c = rw (c .before .match .keys13, c .option-ok .ensures)
+returns-13 c = rw (c .before .match .keys13, c .option-data-ok .ensures)
 
 returns-14 : tie.Need-returns-14
 unfolding fieldOk
@@ -104,13 +104,14 @@ unfolding fieldOk
 returns-15 c = rw (c .match .keys15)
 
 -- past the table
-past : (kind x : ℕ) → 15 ≤ kind → fieldOk kind x ≡ false
+past : (layout kind x : ℕ) → 15 ≤ kind → fieldOk layout kind x ≡ false
 unfolding fieldOk
-past kind x h = ap (λ (f : ℕ → Bool). f x) (List·getD-eq-default fields (λ y. false) h)
+past layout kind x h = ap (λ (f : ℕ → Bool). f x) (List·getD-eq-default (fields layout) (λ y. false) h)
 
 returns-16 : tie.Need-returns-16
 unfolding Avoids
-returns-16 c = sym (past (c .before .args .kind) (c .before .args .value) (avoided 15 (c .before .args .kind) (c .match .rest)))
+returns-16 c =
+    sym (past (c .before .args .layout) (c .before .args .kind) (c .before .args .value) (avoided 15 (c .before .args .kind) (c .match .rest)))
 
 pub field-ok-spec : {M : Type 1} → statement M
 field-ok-spec =
@@ -125,7 +126,7 @@ field-ok-spec =
     torque-ok-requires
     torque-limits-ok-requires
     torque-limits-ok-requires-2
-    option-ok-requires
+    option-data-ok-requires
     rated-ok-requires
     returns
     returns-2

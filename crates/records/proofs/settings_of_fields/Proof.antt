@@ -56,16 +56,20 @@ word-requires-11 c κs = tt
 word-requires-12 : tie.Need-word-requires-12
 word-requires-12 c κs = tt
 
+word-requires-13 : tie.Need-word-requires-13
+word-requires-13 c κs = tt
+
 -- its fields decide it
-built : (f : List ℕ) {a b c e g j k l m n o p : ℕ} {d h i : ℤ}
-    → a ≡ wordAt f 0 → b ≡ wordAt f 1 → c ≡ wordAt f 2 → d ≡ signedAt f 3 → e ≡ wordAt f 4 → g ≡ wordAt f 5 → h ≡ signedAt f 6 → i ≡ signedAt f 7 → j ≡ wordAt f 8 → k ≡ wordAt f 9 → l ≡ wordAt f 10 → m ≡ wordAt f 11 → n ≡ wordAt f 12 → o ≡ wordAt f 13 → p ≡ wordAt f 14
-    → _≡_ {A = Settings} (record { method = a; fast = b; slow = c; offset = d; numerator = e; denominator = g; lower = h; upper = i; maximum = j; positive1 = k; negative1 = l; positive2 = m; negative2 = n; option = o; rated = p }) (settingsOfFields f)
+built : (f : List ℕ) {a b c e g j k l m n o p q : ℕ} {d h i : ℤ}
+    → a ≡ wordAt f 0 → b ≡ wordAt f 1 → c ≡ wordAt f 2 → d ≡ signedAt f 3 → e ≡ wordAt f 4 → g ≡ wordAt f 5 → h ≡ signedAt f 6 → i ≡ signedAt f 7 → j ≡ wordAt f 8 → k ≡ wordAt f 9 → l ≡ wordAt f 10 → m ≡ wordAt f 11 → n ≡ wordAt f 12 → o ≡ wordAt f 13 → p ≡ wordAt f 14 → q ≡ wordAt f 15
+    → _≡_ {A = Settings} (record { method = a; fast = b; slow = c; offset = d; numerator = e; denominator = g; lower = h; upper = i; maximum = j; positive1 = k; negative1 = l; positive2 = m; negative2 = n; option = o; rated = p; homing = q }) (settingsOfFields f)
 unfolding settingsOfFields
-built f a b c d e g h i j k l m n o p = rw (a, b, c, d, e, g, h, i, j, k, l, m, n, o, p)
+built f a b c d e g h i j k l m n o p q = rw (a, b, c, d, e, g, h, i, j, k, l, m, n, o, p, q)
 
 returns : tie.Need-returns
 returns c =
-    let n = c .before .before .before .before in
+    let r = c .before in
+    let n = r .before .before .before .before in
     let u = n .before .before .before in
     let d = u .before .before in
     let o = d .before .before in
@@ -83,10 +87,11 @@ returns c =
     (n .before .before .word6 .ensures)
     (n .before .word7 .ensures)
     (n .word8 .ensures)
-    (c .before .before .before .word9 .ensures)
-    (c .before .before .word10 .ensures)
-    (c .before .word11 .ensures)
-    (c .word12 .ensures)
+    (r .before .before .before .word9 .ensures)
+    (r .before .before .word10 .ensures)
+    (r .before .word11 .ensures)
+    (r .word12 .ensures)
+    (c .word13 .ensures)
 
 pub settings-of-fields-spec : {M : Type 1} → statement M
 settings-of-fields-spec =
@@ -107,4 +112,5 @@ settings-of-fields-spec =
     word-requires-10
     word-requires-11
     word-requires-12
+    word-requires-13
     returns)

@@ -20,20 +20,24 @@ travel-requires c κs = search needs
 torques-requires : tie.Need-torques-requires
 torques-requires c κs = search needs
 
+homing-torque-requires : tie.Need-homing-torque-requires
+homing-torque-requires c κs = search needs
+
 returns : tie.Need-returns
 unfolding fieldsRead
 returns c =
-    let z0 : SFits w32 (c .before .before .before .before .before .before .before .homing .result .offset) = search needs in
-    let z1 : SFits w32 (c .before .before .before .before .before .travel .result .lower) = search needs in
-    let z2 : SFits w32 (c .before .before .before .before .before .travel .result .upper) = search needs in
+    let z0 : SFits w32 (c .before .before .before .before .before .before .before .before .before .homing .result .offset) = search needs in
+    let z1 : SFits w32 (c .before .before .before .before .before .before .before .travel .result .lower) = search needs in
+    let z2 : SFits w32 (c .before .before .before .before .before .before .before .travel .result .upper) = search needs in
     rw (
       toZ-ofZ z0,
       toZ-ofZ z1,
       toZ-ofZ z2,
-      c .before .before .before .torques .ensures,
-      c .before .before .before .before .before .travel .ensures,
-      c .before .before .before .before .before .before .before .homing .ensures,
-      c .before .before .before .before .before .before .before .before .before .length .ensures .0,
+      c .before .before .before .homing-torque .ensures,
+      c .before .before .before .before .before .torques .ensures,
+      c .before .before .before .before .before .before .before .travel .ensures,
+      c .before .before .before .before .before .before .before .before .before .homing .ensures,
+      c .before .before .before .before .before .before .before .before .before .before .before .length .ensures .0,
     )
 
 pub fields-spec : {M : Type 1} → statement M
@@ -44,4 +48,5 @@ fields-spec =
     homing-requires
     travel-requires
     torques-requires
+    homing-torque-requires
     returns)

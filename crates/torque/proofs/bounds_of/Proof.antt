@@ -1,6 +1,6 @@
--- `torque::bounds_of` meets its contract: a cap is at most 3000, so it and its negation fit.
+-- `torque::bounds_of` meets its contract: a cap is below 2 ^ 31, so it and its negation fit.
 -- Assumes nothing.
-use Prim.Native.Nat.{ℕ, _^_, _≤_, _<_}
+use Prim.Native.Nat.{ℕ, min, _^_, _<_}
 use mathlib.Core.Path.{_≡_}
 use native.Mathlib.Omega.{arith}
 use lib.IntN.{pos, negℤ, +ℤ-idl}
@@ -9,7 +9,7 @@ use mir.Syntax.{w32}
 use mir.Val.{SFits}
 use mir.ValLaws.{toZ-pos}
 use Rattle.counts.proofs.Integers.{mag-neg-pos}
-use Rattle.torque.specs.Limits.{capOf}
+use Rattle.torque.specs.Limits.{guarded}
 use borrow.Author.Needs.{needs}
 use Rattle.torque.proofs.bounds_of.Statement.{statement}
 use Rattle.torque.proofs.bounds_of.Tie as tie
@@ -17,18 +17,14 @@ use Rattle.torque.proofs.bounds_of.Tie as tie
 cap-requires : tie.Need-cap-requires
 cap-requires c κs = search needs
 
-small : (r m l : ℕ) → r ≡ capOf m l → r ≤ 3000
-unfolding capOf
-small r m l e = omega arith
+low-half : (r m l : ℕ) → r ≡ guarded (min m l) → r < 2 ^ 31
+low-half r m l e = omega arith
 
-low-half : (r m l : ℕ) → r ≡ capOf m l → r < 2 ^ 31
-low-half r m l e = let h = small r m l e in omega arith
-
-negated : (r m l : ℕ) → r ≡ capOf m l → SFits w32 (negℤ (pos r))
-negated r m l e = let h = small r m l e in record { sfits = omega (arith, mag-neg-pos r) }
+negated : (r m l : ℕ) → r ≡ guarded (min m l) → SFits w32 (negℤ (pos r))
+negated r m l e = let h = low-half r m l e in record { sfits = omega (arith, mag-neg-pos r) }
 
 cast-t5 : tie.Need-cast-t5
-cast-t5 c = let h = small _ _ _ (c .cap .ensures) in record { sfits = omega arith }
+cast-t5 c = let h = low-half _ _ _ (c .cap .ensures) in record { sfits = omega arith }
 
 sub-t6 : tie.Need-sub-t6
 sub-t6 c = rw (toZ-pos w32 (c .cap .result) (low-half _ _ _ (c .cap .ensures)), +ℤ-idl (negℤ (pos (c .cap .result)))) (negated _ _ _ (c .cap .ensures))
@@ -37,7 +33,7 @@ cap-requires-2 : tie.Need-cap-requires-2
 cap-requires-2 c κs = search needs
 
 cast-t8 : tie.Need-cast-t8
-cast-t8 c = let h = small _ _ _ (c .cap2 .ensures) in record { sfits = omega arith }
+cast-t8 c = let h = low-half _ _ _ (c .cap2 .ensures) in record { sfits = omega arith }
 
 returns : tie.Need-returns
 returns c =

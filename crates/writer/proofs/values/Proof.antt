@@ -29,13 +29,17 @@ limit-pair-requires-2 c κs =
     let w = within (b .args .s) (b .pre) in
     search needs
 
+option-data-requires : tie.Need-option-data-requires
+option-data-requires c κs = search needs
+
 tops-requires : tie.Need-tops-requires
 tops-requires c κs = search needs
 
 returns : tie.Need-returns
 unfolding valuesOf
 returns c =
-    let p = c .before in
+    let d = c .before in
+    let p = d .before in
     let t = p .before .before in
     let m = t .before .before in
     let f = m .before .before in
@@ -48,6 +52,7 @@ returns c =
       t .low3 .ensures,
       p .before .limit-pair .ensures,
       p .limit-pair2 .ensures,
+      d .option-data .ensures,
       c .tops .ensures,
       toZ-ofZ (fits-i32 (s .offset) (w .offset)),
       toZ-ofZ (fits-i32 (s .lower) (w .lower)),
@@ -57,4 +62,4 @@ returns c =
 pub values-spec : {M : Type 1} → statement M
 values-spec =
     tie.close
-    (tie.spec low-requires low-requires-2 low-requires-3 limit-pair-requires limit-pair-requires-2 tops-requires returns)
+    (tie.spec low-requires low-requires-2 low-requires-3 limit-pair-requires limit-pair-requires-2 option-data-requires tops-requires returns)

@@ -8,10 +8,10 @@ use native.Mathlib.Omega.{arith}
 use borrow.Author.Tests.{lt-ltb, le-ltb}
 use lib.ListN.{length}
 use Rattle.settings.specs.declared.Settings.{Settings}
-use Rattle.settings.specs.declared.Refusal.the-variants.{UnknownLayout, BufferTooShort, LongValue}
+use Rattle.settings.specs.declared.Refusal.the-variants.{UnknownLayout, BufferTooShort, LongValue, HomingTorqueLost}
 use Rattle.settings.specs.declared.Verdict.the-variants.{Accepted, Refused}
 use Rattle.settings.specs.Ranges.{inRange}
-use Rattle.layouts.specs.Layout.{isLayout, size, longValue}
+use Rattle.layouts.specs.Layout.{isLayout, size, longValue, homingTorqueLost}
 use Rattle.checks.specs.Check.{verdictOf}
 use Rattle.checks.proofs.Numbers.{accepts, passes}
 use Rattle.words.specs.Encode.{valuesOf, wordsOf}
@@ -37,9 +37,14 @@ module _ (layout : ℕ) (s : Settings) (buffer : List ℕ) where
     unfolding writeVerdict
     long l = rw (k, le-ltb (length buffer) (size layout + 1) (omega arith), l)
 
-    left : longValue layout s ≡ false → writeVerdict layout s buffer ≡ verdictOf s
-    unfolding writeVerdict
-    left l = rw (k, le-ltb (length buffer) (size layout + 1) (omega arith), l)
+    module _ (l : longValue layout s ≡ false) where
+      lost : homingTorqueLost layout s ≡ true → writeVerdict layout s buffer ≡ Refused HomingTorqueLost
+      unfolding writeVerdict
+      lost t = rw (k, le-ltb (length buffer) (size layout + 1) (omega arith), l, t)
+
+      left : homingTorqueLost layout s ≡ false → writeVerdict layout s buffer ≡ verdictOf s
+      unfolding writeVerdict
+      left t = rw (k, le-ltb (length buffer) (size layout + 1) (omega arith), l, t)
 
 both-not : (b : Bool) → not b ≡ false → b ≡ true
 both-not true e = refl
@@ -84,13 +89,32 @@ returns-3 c =
     long (a .layout) (a .s) (a .buffer .now) (known-in (z .before)) (rw (z .size .ensures) at (l .before .if2 .left)) (sym (l .is-long .ensures) ∙ c .if3 .taken) in
     (sym e, rw e)
 
--- the writer's own tests were passed
-own : (c : tie.Else3) → (let a = c .before .before .before .before .before .before .before .args in writeVerdict (a .layout) (a .s) (a .buffer .now) ≡ verdictOf (a .s))
-own c =
-    let l = c .before in
+loses-homing-requires : tie.Need-loses-homing-requires
+loses-homing-requires c κs = search needs
+
+returns-4 : tie.Need-returns-4
+returns-4 c =
+    let h = c .before in
+    let g = h .before in
+    let l = g .before in
     let z = l .before .before in
     let a = z .before .before .before .before .args in
-    left (a .layout) (a .s) (a .buffer .now) (known-in (z .before)) (rw (z .size .ensures) at (l .before .if2 .left)) (sym (l .is-long .ensures) ∙ c .if3 .left)
+    let e =
+    lost (a .layout) (a .s) (a .buffer .now) (known-in (z .before)) (rw (z .size .ensures) at (l .before .if2 .left)) (sym (l .is-long .ensures) ∙ g .if3 .left)
+    (sym (h .loses-homing .ensures) ∙ c .if4 .taken) in
+    (sym e, rw e)
+
+-- the writer's own tests were passed
+own : (c : tie.Else4)
+    → (let a = c .before .before .before .before .before .before .before .before .before .args in writeVerdict (a .layout) (a .s) (a .buffer .now) ≡ verdictOf (a .s))
+own c =
+    let h = c .before in
+    let g = h .before in
+    let l = g .before in
+    let z = l .before .before in
+    let a = z .before .before .before .before .args in
+    left (a .layout) (a .s) (a .buffer .now) (known-in (z .before)) (rw (z .size .ensures) at (l .before .if2 .left)) (sym (l .is-long .ensures) ∙ g .if3 .left)
+    (sym (h .loses-homing .ensures) ∙ c .if4 .left)
 
 check-requires : tie.Need-check-requires
 check-requires c κs = search needs
@@ -102,7 +126,7 @@ enum-told : tie.Need-enum-told
 enum-told c = search needs
 
 -- settings that `check` accepted are in range
-range : (c : tie.After-check) → c .check .result ≡ Accepted → inRange (c .before .before .before .before .before .before .before .before .args .s) ≡ true
+range : (c : tie.After-check) → c .check .result ≡ Accepted → inRange (c .before .before .before .before .before .before .before .before .before .before .args .s) ≡ true
 range c e = passes _ (accepts _ .0 (sym (c .check .ensures) ∙ e)) .range
 
 values-requires : tie.Need-values-requires
@@ -112,7 +136,7 @@ fill-requires : tie.Need-fill-requires
 fill-requires c κs =
     let t = c .before .before in
     let k = t .before .before in
-    let z = k .before .before .before .before in
+    let z = k .before .before .before .before .before .before in
     let a = z .before .before .before .before .args in
     let in-layout = both-not (isLayout (a .layout)) (known-in (z .before)) in
     let least = size-least (a .layout) in
@@ -123,8 +147,8 @@ fill-requires c κs =
       rw (c .before .values .ensures) (below-at (valuesOf (a .layout) (a .s)) (values-below (a .layout) (a .s) in-layout (range k (t .enum-told .given .1)))),
     )
 
-returns-4 : tie.Need-returns-4
-returns-4 c =
+returns-5 : tie.Need-returns-5
+returns-5 c =
     let k = c .before .before .before in
     let e = own (k .before) ∙ sym (k .check .ensures) ∙ c .before .verdict .given .1 in
     (sym e, rw e)
@@ -132,13 +156,13 @@ returns-4 c =
 same-length : tie.Need-same-length
 same-length c = search needs
 
-returns-5 : tie.Need-returns-5
+returns-6 : tie.Need-returns-6
 unfolding wordsOf
-returns-5 c =
+returns-6 c =
     let f = c .before .before in
     let v = f .before .before in
     let k = v .before .before .before in
-    let z = k .before .before .before .before in
+    let z = k .before .before .before .before .before .before in
     let e = own (k .before) ∙ sym (k .check .ensures) ∙ v .before .enum-told .given .1 in
     (sym e, rw e (f .fill .ensures ∙ rw (z .size .ensures, v .values .ensures)))
 
@@ -153,11 +177,13 @@ write-spec =
     returns-2
     is-long-requires
     returns-3
+    loses-homing-requires
+    returns-4
     check-requires
     enum-known-verdict
     enum-told
     values-requires
     fill-requires
-    returns-4
+    returns-5
     same-length
-    returns-5)
+    returns-6)

@@ -8,8 +8,8 @@ use Rattle.settings.specs.Ranges.{positionsFit, inRange}
 use Rattle.settings.proofs.fields.in_range.Statement.{statement}
 use Rattle.settings.proofs.fields.in_range.Tie as tie
 
-homing-ok-requires : tie.Need-homing-ok-requires
-homing-ok-requires c κs = search needs
+route-ok-requires : tie.Need-route-ok-requires
+route-ok-requires c κs = search needs
 
 gear-ok-requires : tie.Need-gear-ok-requires
 gear-ok-requires c κs = search needs
@@ -28,7 +28,7 @@ returns c =
     let o : SFits w32 (s .offset) = search needs in
     let l : SFits w32 (s .lower) = search needs in
     let u : SFits w32 (s .upper) = search needs in
-    rw (i32-fits o, i32-fits l, i32-fits u, h .homing-ok .ensures, c .before .before .gear-ok .ensures, c .before .torques-ok .ensures, c .drive-ok .ensures)
+    rw (i32-fits o, i32-fits l, i32-fits u, h .route-ok .ensures, c .before .before .gear-ok .ensures, c .before .torques-ok .ensures, c .drive-ok .ensures)
 
 pub in-range-spec : {M : Type 1} → statement M
-in-range-spec = tie.close (tie.spec homing-ok-requires gear-ok-requires torques-ok-requires drive-ok-requires returns)
+in-range-spec = tie.close (tie.spec route-ok-requires gear-ok-requires torques-ok-requires drive-ok-requires returns)

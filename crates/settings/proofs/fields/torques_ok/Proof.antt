@@ -19,8 +19,23 @@ torque-ok-requires-4 c κs = search needs
 torque-ok-requires-5 : tie.Need-torque-ok-requires-5
 torque-ok-requires-5 c κs = search needs
 
+torque-ok-requires-6 : tie.Need-torque-ok-requires-6
+torque-ok-requires-6 c κs = search needs
+
 returns : tie.Need-returns
-returns c = rw (c .before .before .before .before .torque-ok .ensures, c .before .before .before .torque-ok2 .ensures, c .before .before .torque-ok3 .ensures, c .before .torque-ok4 .ensures, c .torque-ok5 .ensures)
+returns c =
+    let five = c .before in
+    let four = five .before in
+    let three = four .before in
+    let two = three .before in
+    rw (
+      two .before .torque-ok .ensures,
+      two .torque-ok2 .ensures,
+      three .torque-ok3 .ensures,
+      four .torque-ok4 .ensures,
+      five .torque-ok5 .ensures,
+      c .torque-ok6 .ensures,
+    )
 
 pub torques-ok-spec : {M : Type 1} → statement M
 torques-ok-spec =
@@ -31,4 +46,5 @@ torques-ok-spec =
     torque-ok-requires-3
     torque-ok-requires-4
     torque-ok-requires-5
+    torque-ok-requires-6
     returns)

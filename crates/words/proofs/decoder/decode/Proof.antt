@@ -8,7 +8,7 @@ use lib.ListN.{length}
 use mir.Facts.{toZ-ofZ}
 use mir.Syntax.{w32}
 use mir.Val.{SFits}
-use Rattle.words.specs.Decode.{at, positionFrom, settingsFrom, settingsOf}
+use Rattle.words.specs.Decode.{at, positionFrom, optionFrom, homingFrom, settingsFrom, settingsOf}
 use Rattle.words.proofs.Spelled.{spelled, spell}
 use borrow.Author.Needs.{needs}
 use Rattle.words.proofs.decoder.decode.Statement.{statement}
@@ -35,21 +35,31 @@ array-read-position-3 c = search needs
 position-requires-3 : tie.Need-position-requires-3
 position-requires-3 c κs = search needs
 
+option-requires : tie.Need-option-requires
+option-requires c κs = search needs
+
+homing-requires : tie.Need-homing-requires
+homing-requires c κs = search needs
+
 decode-with-requires : tie.Need-decode-with-requires
 decode-with-requires c κs = search needs
 
--- the three positions decide the rest
-built : (v : List ℕ) (tops : ℕ) → length v ≡ 14 → {o l u : ℤ}
+-- three positions, the option and the homing torque decide the rest
+built : (v : List ℕ) (tops : ℕ) → length v ≡ 14 → {o l u : ℤ} {p h : ℕ}
     → o ≡ positionFrom (at v 0) (at v 4) (tops % 2 ^ 4)
     → l ≡ positionFrom (at v 0) (at v 7) (tops / 2 ^ 4 % 2 ^ 4)
     → u ≡ positionFrom (at v 0) (at v 8) (tops / 2 ^ 8 % 2 ^ 4)
-    → settingsFrom o l u v ≡ settingsOf (v ++ tops ∷ [])
+    → p ≡ optionFrom v
+    → h ≡ homingFrom v
+    → settingsFrom o l u p h v ≡ settingsOf (v ++ tops ∷ [])
 unfolding settingsOf spell
-built v tops n p q r = rw (p, q, r, spelled 14 v n)
+built v tops n a b c d e = rw (a, b, c, d, e, spelled 14 v n)
 
 returns : tie.Need-returns
 returns c =
-    let u = c .before in
+    let h = c .before in
+    let p = h .before in
+    let u = p .before in
     let l = u .before in
     let o = l .before in
     let v = o .before .args .t1 in
@@ -59,6 +69,7 @@ returns c =
     let fu : SFits w32 (u .position3 .result) = search needs in
     c .decode-with .ensures
     ∙ built v (o .before .args .tops) n (toZ-ofZ fo ∙ o .position .ensures) (toZ-ofZ fl ∙ l .position2 .ensures) (toZ-ofZ fu ∙ u .position3 .ensures)
+    (p .option .ensures) (h .homing .ensures)
 
 pub decode-spec : {M : Type 1} → statement M
 decode-spec =
@@ -71,5 +82,7 @@ decode-spec =
     position-requires-2
     array-read-position-3
     position-requires-3
+    option-requires
+    homing-requires
     decode-with-requires
     returns)
