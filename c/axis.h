@@ -45,7 +45,8 @@ uint32_t axis_word(uint32_t axis[AXIS_WORDS], uint32_t word);
  * other six are 0 and the axis stays as it was. The floats are looked at by a hybrid command alone, but seven are lent in each call. */
 uint32_t axis_tick(uint32_t axis[AXIS_WORDS], const uint32_t event[AXIS_EVENT], const float floats[AXIS_FLOATS], uint32_t answer[AXIS_ANSWER]);
 
-/* The layouts of the words that carry settings. What several hold means the same in each; ask for the lowest where an older axis is to read it too. */
+/* The layouts of the words that carry settings. What several hold means the same in each; ask for the lowest that holds yours where an older axis is to
+ * read it too. */
 enum {
     AXIS_LAYOUT_1 = 1, /* 15 words; home offset and software position limits from -2^27 to 2^27 - 1, homing torque equal to the maximum torque */
     AXIS_LAYOUT_2 = 2, /* 16 words; homing torque equal to the maximum torque, which is how layouts 1 and 2 are read */
@@ -82,7 +83,7 @@ enum {
     AXIS_EVENT_INPUTS = 3,   /* AXIS_INPUT_..., summed; other bits are not looked at */
     AXIS_EVENT_ALARM = 4,    /* alarm word: any bit is an alarm */
     AXIS_EVENT_TORQUE = 5,   /* torque request of homing, position and torque (signed): (uint32_t)(int32_t)request, so that -1 is FFFFFFFF and not
-                                0000FFFF; one beyond 16 bits is taken as the nearest of 16 bits, which no torque limit can tell from it */
+                                0000FFFF; one beyond 16 bits is taken as the nearest of 16 bits, which no torque limit of settings can tell from it */
     AXIS_EVENT_TARGET = 6    /* target of position, user units (signed) */
 };
 
@@ -126,7 +127,7 @@ enum {
     AXIS_ANSWER_ALARM = 6       /* alarm number: place of the lowest alarm bit, from 1, as Fault reaction was entered; 0 none */
 };
 
-/* The fields of settings, by CiA 402's names. */
+/* The fields of settings, by CiA 402's names where it has one. */
 enum {
     AXIS_FIELD_HOMING_METHOD = 0,           /* 1, 2, 17, 18, 23 to 30, 33, 34 or 35 */
     AXIS_FIELD_HOMING_SPEED_FAST = 1,       /* 1 to 2^28 - 1: searching for a switch */
@@ -143,7 +144,8 @@ enum {
     AXIS_FIELD_NEGATIVE_TORQUE_LIMIT_2 = 12,
     AXIS_FIELD_QUICK_STOP_OPTION_CODE = 13, /* 2 or 6 */
     AXIS_FIELD_RATED_TORQUE = 14,           /* 1 to 2^24 millinewton metres */
-    AXIS_FIELD_HOMING_TORQUE = 15           /* a torque as those above: beside them the cap in mode 6; layouts 1 and 2 hold the maximum torque's value alone */
+    AXIS_FIELD_HOMING_TORQUE = 15           /* 0 to 3000, as the torques above: caps the torque in mode 6. Set it to the maximum torque for no cap of its
+                                               own; 0 leaves mode 6 without torque. Layouts 1 and 2 hold the maximum torque's value alone */
 };
 
 #ifdef __cplusplus

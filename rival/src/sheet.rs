@@ -87,8 +87,8 @@ pub fn data_is_in_range(layout: u32, kind: u32, data: u32) -> bool {
         MAXIMUM_TORQUE => data <= TORQUE_TOP,
         LIMIT_SET_1 | LIMIT_SET_2 => positive(data) <= TORQUE_TOP && negative(data) <= TORQUE_TOP,
         QUICK_STOP_OPTION if layout == 3 => {
-            is_option(option(data)) && homing_torque(data) <= TORQUE_TOP && data >> 20 == 0
             // "bits 20 to 27 are zero"
+            is_option(option(data)) && homing_torque(data) <= TORQUE_TOP && data >> 20 == 0
         }
         QUICK_STOP_OPTION => is_option(data),
         RATED_TORQUE => (1..=1 << 24).contains(&data),

@@ -2,15 +2,11 @@
 -- Assumes nothing.
 use Prim.Native.Nat.{ℕ}
 use mathlib.Core.Path.{_≡_, refl, sym, ap, subst, _∙_}
-use mathlib.Core.Bool.{Bool, true, false, cond, _||_}
+use mathlib.Core.Bool.{Bool, true, false, cond}
 use mathlib.Core.List.{List, [], _∷_, _++_, append-assoc, append-nil}
 use native.Mathlib.Omega.{arith}
-use borrow.Author.Tests.{eqb-true}
 use Rattle.settings.specs.declared.Settings.{Settings}
-use Rattle.settings.specs.Ranges.{positionsFit}
-use Rattle.settings.proofs.Within.{both}
-use Rattle.layouts.specs.Layout.{width, carriesHoming, homingIsMaximum}
-use Rattle.checks.proofs.Sends.{sends}
+use Rattle.checks.proofs.Sends.{held-maximum}
 use Rattle.states.specs.declared.State.{State}
 use Rattle.states.specs.States.{liveOf}
 use Rattle.words.specs.Word.{latest}
@@ -128,9 +124,5 @@ nothing-came = record { is = refl; words = refl; came = λ s q. let z : _≡_ {A
 pub came-by-their-words : CameByTheirWords
 came-by-their-words es s e = along [] atFirst nothing-came es .came s (sym (matches es .active) ∙ e)
 
--- a layout that carries no homing torque holds only settings in which it is the maximum
 pub came-with-maximum : CameWithMaximum
-came-with-maximum es s c k =
-    let l = c .layout in
-    let held = both (positionsFit (width l) s) (carriesHoming l || homingIsMaximum s) (sends l s (c .words .sound) .held) .1 in
-    eqb-true (s .homing) (s .maximum) (rw k at held)
+came-with-maximum es s c k = held-maximum (c .layout) s (c .words .sound) k

@@ -14,7 +14,7 @@ use Rattle.settings.specs.declared.Verdict.{Verdict}
 use Rattle.settings.specs.declared.Verdict.the-variants.{Accepted, Refused}
 use Rattle.layouts.specs.Layout.{isLayout}
 use Rattle.checks.proofs.Numbers.{refused-accepted}
-use Rattle.words.specs.Encode.{sent, wordsOf}
+use Rattle.words.specs.Encode.{wordsOf}
 use Rattle.words.proofs.Words.{words-size}
 use Rattle.writer.specs.Write.{needed, bufferTooShort, writeVerdict, written}
 use Rattle.writer.proofs.Numbers.{accepts-exactly}
@@ -27,11 +27,11 @@ module _ (layout : ℕ) (s : Settings) (buffer : List ℕ) (v : writeVerdict lay
   unfolding writeVerdict
   long-enough = go (not (isLayout layout)) (bufferTooShort layout buffer) refl _ v
     where
-      go : (a b : Bool) → bufferTooShort layout buffer ≡ b → (v : Verdict)
-          → cond a (Refused UnknownLayout) (cond b (Refused BufferTooShort) v) ≡ Accepted → needed layout ≤ length buffer
-      go true b e v r = refused-accepted UnknownLayout r
-      go false true e v r = refused-accepted BufferTooShort r
-      go false false e v r = ltb-false (length buffer) (needed layout) e
+      go : (a b : Bool) → bufferTooShort layout buffer ≡ b → (rest : Verdict)
+          → cond a (Refused UnknownLayout) (cond b (Refused BufferTooShort) rest) ≡ Accepted → needed layout ≤ length buffer
+      go true b e rest r = refused-accepted UnknownLayout r
+      go false true e rest r = refused-accepted BufferTooShort r
+      go false false e rest r = ltb-false (length buffer) (needed layout) e
 
   front : take (needed layout) (written layout s buffer) ≡ wordsOf layout s
   front = rw v (take-at (wordsOf layout s) (drop (needed layout) buffer) (needed layout) (words-size layout s))

@@ -28,8 +28,8 @@ use Rattle.demands.specs.Known.{Known, next, known, RouteCompleted}
 pub record Judged (s : Settings) (k : Known) (t : Tick) (a : Answer) : Type 0 where
   -- it is not refused
   pub number : a .number ≡ 0
-  -- the torque lies within the cap of the mode that it shows and the limit chosen in it, each way; so within that limit, capped by the maximum
-  -- (`StillWithinLimits`, `torque/specs/Bounded.antt`), and in mode 6 within the homing torque (`WithinHomingTorque`)
+  -- the torque lies, each way, within the cap of the mode that the tick shows and the limit that it chooses; so within that limit, capped by the
+  -- maximum (`StillWithinLimits`, `torque/specs/Bounded.antt`), and in mode 6 within the homing torque (`CappedInHoming`)
   pub bounded : Bounded s (next k (tick t) .shown) (t .set) (a .torque)
   -- and is zero unless the new state is Operation enabled or Quick stop active
   pub zero-unless-live : liveOf (next k (tick t) .state) ≡ false → a .torque ≡ pos 0

@@ -17,8 +17,8 @@ use Rattle.commands.specs.declared.Command.the-variants.{Homing, Position, Torq
 use Rattle.torque.specs.declared.LimitSet.the-variants.{Set2}
 use Rattle.demands.specs.Events.{Event, word}
 use Rattle.demands.specs.Sheet.{words-S, settings-S, data-with, S-with}
-use Rattle.demands.specs.LongRails.{words-S-2, brings, numbers, writes}
-use Rattle.demands.specs.Lists.{moving-tick, ask, ask-in, hybrid, enabling, after, torque, status, sameCounts}
+use Rattle.demands.specs.LongRails.{words-S-2}
+use Rattle.demands.specs.Lists.{moving-tick, ask, ask-in, hybrid, enabling, after, torque, status, sameCounts, brings, numbers, writes}
 
 -- S in layout 3: start data 3, the maximum, 1000, as homing torque in bits 8 to 19 of kind 12, kind 14, and the sum
 unfoldable pub words-S-3 : List ℕ

@@ -4,18 +4,24 @@ use Prim.Native.Nat.{ℕ}
 use mathlib.Core.Bool.{Bool, true, false, _&&_}
 use mathlib.Core.List.{List, [], _∷_, _++_, map}
 use lib.IntN.{ℤ, pos}
-use lib.ListN.{length, drop}
+use lib.ListN.{length, drop, replicate}
 use lib.Ieee.{binary32, ofBits}
 use Rattle.counts.specs.Tests.{same}
+use Rattle.settings.specs.declared.Settings.{Settings}
 use Rattle.settings.specs.Refusal.{verdictNumber}
+use Rattle.words.specs.Word.{sameWords}
+use Rattle.words.specs.Encode.{wordsOf}
+use Rattle.writer.specs.Write.{writeVerdict}
 use Rattle.commands.specs.declared.Command.{Command}
 use Rattle.commands.specs.declared.Command.the-variants.{Hybrid, Homing, Rest}
 use Rattle.legs.specs.declared.events.Switches.{Switches}
 use Rattle.legs.specs.Events.{allOff, switchesIn}
 use Rattle.torque.specs.declared.LimitSet.{LimitSet}
 use Rattle.torque.specs.declared.LimitSet.the-variants.{Set1}
+use Rattle.rules.specs.Axis.{Active, Nothing, Set}
 use Rattle.demands.specs.Events.{Event, word, tick}
-use Rattle.demands.specs.Replies.{Reply, said, answered, replies}
+use Rattle.demands.specs.Known.{known}
+use Rattle.demands.specs.Replies.{Reply, said, answered, axisOf, replies}
 use Rattle.demands.specs.Sheet.{words-S, S-with}
 
 abbrev pub off : Switches
@@ -140,3 +146,20 @@ sameCounts [] [] = true
 sameCounts [] (y ∷ ys) = false
 sameCounts (x ∷ xs) [] = false
 sameCounts (x ∷ xs) (y ∷ ys) = same x y && sameCounts xs ys
+
+-- the settings in force, as words of layout 3, which holds all acceptable ones
+abbrev pub in-force : Active → List ℕ
+in-force Nothing = []
+in-force (Set s) = wordsOf 3 s
+
+-- after some words these settings are in force: by the axis, and by the list alone
+abbrev pub brings : List ℕ → Settings → Bool
+brings ws s = sameWords (in-force (axisOf (map word ws) .active)) (wordsOf 3 s) && sameWords (in-force (known (map word ws) .settings)) (wordsOf 3 s)
+
+-- the numbers that some words are answered with
+abbrev pub numbers : List ℕ → List ℕ
+numbers ws = map number (replies (map word ws))
+
+-- the number that the writer gives, on so many words
+abbrev pub writes : ℕ → Settings → ℕ → ℕ
+writes layout s room = verdictNumber (writeVerdict layout s (replicate room 0))

@@ -2,25 +2,21 @@
 -- evaluates them in `Examples.antt`.
 -- Assumes nothing.
 use Prim.Native.Nat.{ℕ, _+_, _-_, _^_}
-use mathlib.Core.Bool.{Bool, _&&_}
+use mathlib.Core.Bool.{Bool}
 use mathlib.Core.List.{List, [], _∷_, _++_, map}
 use lib.Dec.{eqb}
 use lib.IntN.{ℤ, pos}
 use lib.ListN.{take, drop, replicate}
 use Rattle.counts.specs.Tests.{minus}
 use Rattle.settings.specs.declared.Settings.{Settings}
-use Rattle.settings.specs.Refusal.{verdictNumber}
 use Rattle.words.specs.Word.{sameWords}
 use Rattle.words.specs.Encode.{wordsOf}
 use Rattle.words.specs.Decode.{optionFrom, homingFrom, settingsFrom}
-use Rattle.writer.specs.Write.{writeVerdict, written}
+use Rattle.writer.specs.Write.{written}
 use Rattle.commands.specs.declared.Command.the-variants.{Position}
-use Rattle.rules.specs.Axis.{Active, Nothing, Set}
 use Rattle.demands.specs.Events.{Event, word}
-use Rattle.demands.specs.Known.{known}
-use Rattle.demands.specs.Replies.{replies, axisOf}
 use Rattle.demands.specs.Sheet.{words-S, settings-S, data-with}
-use Rattle.demands.specs.Lists.{off, HOM, ask, start, at, enabling, after, number, position, sameCounts}
+use Rattle.demands.specs.Lists.{off, HOM, ask, start, at, enabling, after, position, sameCounts, brings, numbers, writes}
 
 -- S in layout 2: start data 2, kind 14 with the top four bits of −1000 as lower limit, and their part of the sum
 unfoldable pub words-S-2 : List ℕ
@@ -29,7 +25,7 @@ words-S-2 =
     ∷ 0xA0960320 ∷ 0xB04B012C ∷ 0xC0000002 ∷ 0xD00007D0 ∷ 0xE00000F0 ∷ 0xF0E1631C ∷ []
 
 -- S with other offset and limits, and other data of some kinds
-abbrev pub railed : ℤ → ℤ → ℤ → List (ℕ × ℕ) → Settings
+abbrev railed : ℤ → ℤ → ℤ → List (ℕ × ℕ) → Settings
 railed offset lower upper changes =
     let d = data-with changes in settingsFrom offset lower upper (optionFrom d) (homingFrom d) d
 
@@ -51,25 +47,8 @@ homed-under s = map word (wordsOf 2 s) ++ enabling ++ start 10 HOM ∷ at 0 off 
 abbrev follows : Settings → ℤ → List ℤ
 follows s target = map position (after (homed-under s) (ask (Position target (pos 0)) ∷ []))
 
--- the settings in force, as words of layout 3, which holds all acceptable ones
-abbrev pub in-force : Active → List ℕ
-in-force Nothing = []
-in-force (Set s) = wordsOf 3 s
-
--- after some words these settings are in force: by the axis, and by the list alone
-abbrev pub brings : List ℕ → Settings → Bool
-brings ws s = sameWords (in-force (axisOf (map word ws) .active)) (wordsOf 3 s) && sameWords (in-force (known (map word ws) .settings)) (wordsOf 3 s)
-
 abbrev in-force-S : List ℕ → Bool
 in-force-S ws = brings ws settings-S
-
--- the numbers that some words are answered with
-abbrev pub numbers : List ℕ → List ℕ
-numbers ws = map number (replies (map word ws))
-
--- the number that the writer gives, on so many words
-abbrev pub writes : ℕ → Settings → ℕ → ℕ
-writes layout s length = verdictNumber (writeVerdict layout s (replicate length 0))
 
 -- one beyond 28 bits: the offset either way, the lower limit below, the upper above; and all three at their edges
 abbrev beyond : List Settings

@@ -9,7 +9,7 @@ use lib.ListN.{length, take}
 use Rattle.settings.specs.declared.Settings.{Settings}
 use Rattle.settings.specs.declared.Verdict.the-variants.{Accepted}
 use Rattle.settings.specs.Refusal.{verdictNumber}
-use Rattle.layouts.specs.Layout.{isLayout, carriesHoming}
+use Rattle.layouts.specs.Layout.{isLayout, carriesHomingTorque}
 use Rattle.checks.specs.Check.{sendable}
 use Rattle.words.specs.Encode.{wordsOf}
 use Rattle.writer.specs.Write.{needed, writeVerdict, written}
@@ -110,4 +110,4 @@ CameByTheirWords = (es : List Event) (s : Settings) → axisOf es .active ≡ Se
 -- 02, (v): "Layouts 1 and 2 read as homing torque equal to the maximum": so it is of settings that came by words of these. That the reader reads so is
 -- `OlderReadMaximum`, `roundtrip/specs/Unique.antt`
 abbrev pub CameWithMaximum : Type 0
-CameWithMaximum = (es : List Event) (s : Settings) (c : Came s es) → carriesHoming (c .layout) ≡ false → s .homing ≡ s .maximum
+CameWithMaximum = (es : List Event) (s : Settings) (c : Came s es) → carriesHomingTorque (c .layout) ≡ false → s .homing ≡ s .maximum

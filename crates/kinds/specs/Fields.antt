@@ -5,7 +5,7 @@ use mathlib.Core.Bool.{Bool, true, false, cond, _&&_}
 use mathlib.Core.List.{List, [], _∷_}
 use lib.Dec.{ltb}
 use lib.ListN.{getD}
-use Rattle.layouts.specs.Layout.{isLayout, carriesHoming}
+use Rattle.layouts.specs.Layout.{isLayout, carriesHomingTorque}
 use Rattle.ranges.specs.Range.{methodOk, speedOk, ratioOk, torqueOk, optionOk, ratedOk}
 
 -- the low 28 bits of offset and stops: whatever they are, they are some number's
@@ -21,7 +21,7 @@ unfoldable pub optionWithHomingOk : ℕ → Bool
 optionWithHomingOk x = optionOk (x % 2 ^ 8) && torqueOk (x / 2 ^ 8 % 2 ^ 12) && ltb x (2 ^ 20)
 
 abbrev pub optionDataOk : ℕ → ℕ → Bool
-optionDataOk layout x = cond (carriesHoming layout) (optionWithHomingOk x) (optionOk x)
+optionDataOk layout x = cond (carriesHomingTorque layout) (optionWithHomingOk x) (optionOk x)
 
 -- kind 14: "bits 12 to 27 are zero"
 abbrev pub topsOk : ℕ → Bool

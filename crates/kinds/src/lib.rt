@@ -12,13 +12,14 @@ fn torque_limits_ok(value: u32) -> bool
 fn option_data_ok(layout: u32, value: u32) -> bool
     ensures { λ r. ⌜ r ≡ optionDataOk layout value ⌝ }
 {
-    if layouts::carries_homing(layout) {
+    if layouts::carries_homing_torque(layout) {
         ranges::option_ok(value % 0x100) & ranges::torque_ok(value / 0x100)
     } else {
         ranges::option_ok(value)
     }
 }
 
+// A start word's data, kind 0, is the layout itself; `axis` asks for that before a layout is known.
 pub fn field_ok(layout: u32, kind: u32, value: u32) -> bool
     ensures { λ r. ⌜ r ≡ fieldOk layout kind value ⌝ }
 {

@@ -20,8 +20,8 @@ abbrev pub size : ℕ → ℕ
 size layout = cond (eqb layout 1) 14 15
 
 -- "Layout 3 is layout 2 with start data 3, and in the kind 12 word bits 8 to 19 hold the homing torque": it alone carries one
-abbrev pub carriesHoming : ℕ → Bool
-carriesHoming layout = eqb layout 3
+abbrev pub carriesHomingTorque : ℕ → Bool
+carriesHomingTorque layout = eqb layout 3
 
 -- "Layouts 1 and 2 read as homing torque equal to the maximum"; the values are compared, whatever their effect
 abbrev pub homingIsMaximum : Settings → Bool
@@ -29,7 +29,7 @@ homingIsMaximum s = eqb (s .homing) (s .maximum)
 
 -- a layout holds settings whose offset and stops fit its width, and whose homing torque it carries or is the maximum, as which it is read
 abbrev pub layoutHolds : ℕ → Settings → Bool
-layoutHolds layout s = positionsFit (width layout) s && (carriesHoming layout || homingIsMaximum s)
+layoutHolds layout s = positionsFit (width layout) s && (carriesHomingTorque layout || homingIsMaximum s)
 
 -- 10: "layout 1 is asked and the offset or a stop needs more than 28 bits"
 abbrev pub longValue : ℕ → Settings → Bool
@@ -37,4 +37,4 @@ longValue layout s = eqb layout 1 && not (positionsFit 28 s)
 
 -- 11: "an older layout is asked and homing torque differs from the maximum" (2 is tested before)
 abbrev pub homingTorqueLost : ℕ → Settings → Bool
-homingTorqueLost layout s = not (carriesHoming layout) && not (homingIsMaximum s)
+homingTorqueLost layout s = not (carriesHomingTorque layout) && not (homingIsMaximum s)

@@ -2,7 +2,7 @@
 use settings::Settings;
 ghost use mathlib.Core.Path.{_≡_};
 ghost use Rattle.counts.specs.Fits.{fits};
-ghost use Rattle.layouts.specs.Layout.{isLayout, size, carriesHoming, longValue, homingTorqueLost};
+ghost use Rattle.layouts.specs.Layout.{isLayout, size, carriesHomingTorque, longValue, homingTorqueLost};
 
 // Whether this is a layout.
 pub fn is_layout(layout: u32) -> bool
@@ -19,8 +19,8 @@ pub fn size(layout: u32) -> u32
 }
 
 // Whether the layout carries a homing torque.
-pub fn carries_homing(layout: u32) -> bool
-    ensures { λ r. ⌜ r ≡ carriesHoming layout ⌝ }
+pub fn carries_homing_torque(layout: u32) -> bool
+    ensures { λ r. ⌜ r ≡ carriesHomingTorque layout ⌝ }
 {
     layout == 3
 }
@@ -39,8 +39,8 @@ pub fn is_long(layout: u32, s: Settings) -> bool
 }
 
 // Whether the homing torque is neither carried nor the maximum, as which older layouts read (refusal 11).
-pub fn loses_homing(layout: u32, s: Settings) -> bool
+pub fn loses_homing_torque(layout: u32, s: Settings) -> bool
     ensures { λ r. ⌜ r ≡ homingTorqueLost layout s ⌝ }
 {
-    !carries_homing(layout) & (s.homing != s.maximum)
+    !carries_homing_torque(layout) & (s.homing != s.maximum)
 }

@@ -36,7 +36,7 @@ signedAt e k = wrapped (pos (wordAt e k))
 abbrev pub controlIn : ℕ → ℕ
 controlIn w = cond (ltb w (2 ^ 16)) w 0
 
--- a torque request has 16 bits: one beyond them is the nearest, which no torque limit can tell from it
+-- a torque request has 16 bits: one beyond them is the nearest, which no torque limit of settings, at most 3000, can tell from it
 abbrev pub requestAt : List ℕ → ℕ → ℤ
 requestAt e k = clamped (signedAt e k) (negsuc 32767) (pos 32767)
 

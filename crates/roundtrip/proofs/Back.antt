@@ -1,9 +1,10 @@
--- Words that are read into settings, a start word among them, are from the latest one on those settings' words.
+-- Words that are read into settings, a start word among them, are from the latest one on those settings' words. Which settings each layout holds, and so
+-- that they may be written in each later one.
 -- The idea: a start word forgets what was pending, so that the words might as well have come first.
 -- Assumes nothing.
 use Prim.Native.Nat.{ℕ, _≤_}
 use mathlib.Core.Path.{_≡_, refl, sym, ap, _∙_, subst}
-use mathlib.Core.Bool.{Bool, true, false, cond, _&&_, _||_}
+use mathlib.Core.Bool.{Bool, true, false, cond, _&&_, and-true}
 use mathlib.Core.List.{List, [], _∷_, _++_, nil≢cons}
 use native.Mathlib.Omega.{arith}
 use borrow.Author.Tests.{eqb-true, eqb-false, ne-eqb, leb-true}
@@ -11,9 +12,9 @@ use lib.Dec.{eqb, leb}
 use Rattle.settings.specs.declared.Settings.{Settings}
 use Rattle.settings.specs.Ranges.{positionsFit}
 use Rattle.settings.proofs.Within.{both}
-use Rattle.layouts.specs.Layout.{isLayout, width, carriesHoming, homingIsMaximum}
+use Rattle.layouts.specs.Layout.{isLayout, homingIsMaximum}
 use Rattle.checks.specs.Check.{sendable}
-use Rattle.checks.proofs.Sends.{sends, positions-32}
+use Rattle.checks.proofs.Sends.{sends, positions-32, held-maximum}
 use Rattle.words.specs.Word.{kindOf, orElse, latest}
 use Rattle.words.specs.Encode.{checksumOf, wordsOf}
 use Rattle.words.specs.Decode.{layoutOf}
@@ -94,22 +95,14 @@ one-list p ws s r n =
     rw tells (words, c .sound)
 
 pub older-read-maximum : OlderReadMaximum
-older-read-maximum p ws s r n c =
-    let l = layoutOf (latest ws) in
-    let held = sends l s (one-list p ws s r n .1) .held in
-    let carried = both (positionsFit (width l) s) (carriesHoming l || homingIsMaximum s) held .1 in
-    eqb-true (s .homing) (s .maximum) (rw c at carried)
+older-read-maximum p ws s r n c = held-maximum (layoutOf (latest ws)) s (one-list p ws s r n .1) c
 
 -- 32 bits hold all that is acceptable
 pub layouts-hold : LayoutsHold
 layouts-hold s e =
     let wide = positions-32 s e in
-    record { layout-1 = rw e (go (positionsFit 28 s) (homingIsMaximum s)); layout-2 = rw (e, wide) (alone (homingIsMaximum s)); layout-3 = rw (e, wide); no-other = λ l k. rw k }
+    record { layout-1 = rw e (go (positionsFit 28 s) (homingIsMaximum s)); layout-2 = rw (e, wide) (and-true (homingIsMaximum s)); layout-3 = rw (e, wide); no-other = λ l k. rw k }
   where
-    alone : (m : Bool) → m && true ≡ m
-    alone true = refl
-    alone false = refl
-
     go : (f m : Bool) → f && m && true ≡ m && f
     go true true = refl
     go true false = refl

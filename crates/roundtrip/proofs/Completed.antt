@@ -29,7 +29,7 @@ use Rattle.layouts.proofs.Sizes.{size-least, size-below}
 use Rattle.roundtrip.specs.ReadInto.{ReadInto, last, more}
 use Rattle.roundtrip.specs.Stream.{pendingFrom, pendingAfter, EndsIn}
 use Rattle.checks.proofs.Sends.{sendable-of}
-use Rattle.roundtrip.proofs.Values.{InFields, zeros, checksum-padded}
+use Rattle.roundtrip.proofs.Values.{InFields, checksum-padded}
 use Rattle.roundtrip.proofs.Fifteen.{topsEnd, Sent, carries}
 use Rattle.roundtrip.proofs.Run.{pendingOf, layout-of-run, kept-is}
 use Rattle.roundtrip.proofs.There.{there}

@@ -14,7 +14,7 @@ use Rattle.ranges.specs.Range.{torqueOk, optionOk}
 use Rattle.settings.specs.declared.Settings.{Settings}
 use Rattle.settings.specs.Ranges.{positionsFit, inRange}
 use Rattle.settings.proofs.Within.{both, whole}
-use Rattle.layouts.specs.Layout.{carriesHoming, layoutHolds}
+use Rattle.layouts.specs.Layout.{carriesHomingTorque, layoutHolds}
 use Rattle.words.specs.Encode.{valuesOf}
 use Rattle.words.specs.Decode.{at, layoutOf, offsetTop, lowerTop, upperTop, positionFrom, settingsOf}
 use Rattle.words.proofs.Bits.{position-low, position-top, position-fits, set-both, pair-both}
@@ -52,7 +52,7 @@ holds-here d =
       position-fits b (at d 7 + lowerTop d * 2 ^ 28),
       position-fits b (at d 8 + upperTop d * 2 ^ 28),
     )
-    (homing-held (carriesHoming (layoutOf d)) (at d 12 / 2 ^ 8 % 2 ^ 12) (at d 9))
+    (homing-held (carriesHomingTorque (layoutOf d)) (at d 12 / 2 ^ 8 % 2 ^ 12) (at d 9))
 
 -- kind 12, j saying whether the layout carries a homing torque: its parts are in their ranges, and they are all of it; t is the maximum
 record Parts (j : Bool) (x t : ℕ) : Type 0 where
@@ -73,9 +73,9 @@ module _ (y m f l o n d a b t g h c r p : ℕ) where
   fifteen = y ∷ m ∷ f ∷ l ∷ o ∷ n ∷ d ∷ a ∷ b ∷ t ∷ g ∷ h ∷ c ∷ r ∷ p ∷ []
 
   -- kind 12 and the maximum
-  parts-here : InFields y 0 fifteen → Parts (carriesHoming y) c t
+  parts-here : InFields y 0 fifteen → Parts (carriesHomingTorque y) c t
   unfolding fieldOk
-  parts-here i = let i₃ = i .1 .1 .1 .1 .1 .1 .1 .1 .1 in parts (carriesHoming y) c t (i₃ .1 .1 .1 .0) (i₃ .0)
+  parts-here i = let i₃ = i .1 .1 .1 .1 .1 .1 .1 .1 .1 in parts (carriesHomingTorque y) c t (i₃ .1 .1 .1 .0) (i₃ .0)
 
   values-here : Below fifteen → InFields y 0 fifteen → p < topsEnd (eqb y 1) → valuesOf y (settingsOf fifteen) ≡ fifteen
   unfolding valuesOf settingsOf positionFrom

@@ -14,7 +14,7 @@ use Rattle.settings.specs.declared.Settings.{Settings}
 use Rattle.settings.specs.Ranges.{positionsFit, inRange}
 use Rattle.settings.proofs.Within.{Within, within, positions, both}
 use Rattle.ranges.specs.Range.{optionOk}
-use Rattle.layouts.specs.Layout.{isLayout, width, size, carriesHoming, homingIsMaximum, layoutHolds}
+use Rattle.layouts.specs.Layout.{isLayout, width, size, carriesHomingTorque, homingIsMaximum, layoutHolds}
 use Rattle.words.specs.Encode.{topOf, topsOf, valuesOf, total, checksumOf, sent}
 use Rattle.words.specs.Decode.{positionFrom, settingsOf}
 use Rattle.words.proofs.Bits.{top-below, small, position-read, tops-offset, tops-lower, tops-upper, set-low, set-high, pair-option, pair-torque, pair-below}
@@ -76,7 +76,7 @@ module _ (l : ℕ) (s : Settings) where
                             (
                               rw (set-low (s .positive2) (s .negative2) (w .positive2), set-high (s .positive2) (s .negative2) (w .positive2), w .positive2, w .negative2),
                               (
-                                option-in-field s w (carriesHoming l),
+                                option-in-field s w (carriesHomingTorque l),
                                 (
                                   w .rated,
                                   (
@@ -102,7 +102,7 @@ module _ (l : ℕ) (s : Settings) where
   unfolding valuesOf settingsOf positionFrom
   values-read ok e =
       let w = within s ok in
-      let both-held = both (positionsFit (width l) s) (carriesHoming l || homingIsMaximum s) e in
+      let both-held = both (positionsFit (width l) s) (carriesHomingTorque l || homingIsMaximum s) e in
       let h = positions (width l) s (both-held .0) in
       let b = eqb l 1 in
       let o = topOf l (s .offset) in
@@ -119,8 +119,8 @@ module _ (l : ℕ) (s : Settings) where
         set-high (s .positive1) (s .negative1) (w .positive1),
         set-low (s .positive2) (s .negative2) (w .positive2),
         set-high (s .positive2) (s .negative2) (w .positive2),
-        option-read s w (carriesHoming l),
-        homing-read s w (carriesHoming l) (both-held .1),
+        option-read s w (carriesHomingTorque l),
+        homing-read s w (carriesHomingTorque l) (both-held .1),
       )
 
   -- all values are those sent, and zeros

@@ -8,7 +8,7 @@ use mathlib.Core.Bool.{true, false, _&&_}
 use mathlib.Core.List.{List, []}
 use Rattle.settings.specs.declared.Settings.{Settings}
 use Rattle.settings.specs.Ranges.{positionsFit}
-use Rattle.layouts.specs.Layout.{isLayout, carriesHoming, homingIsMaximum}
+use Rattle.layouts.specs.Layout.{isLayout, carriesHomingTorque, homingIsMaximum}
 use Rattle.checks.specs.Check.{acceptable, sendable}
 use Rattle.words.specs.Word.{latest}
 use Rattle.words.specs.Encode.{wordsOf}
@@ -47,14 +47,14 @@ pub record HeldBy (s : Settings) : Type 0 where
 abbrev pub LayoutsHold : Type 0
 LayoutsHold = (s : Settings) → acceptable s ≡ true → HeldBy s
 
--- 02, (v): "Layouts 1 and 2 read as homing torque equal to the maximum": whatever was pending. No tick would
--- tell it from any value above; the writer's 11 does
+-- 02, (v): "Layouts 1 and 2 read as homing torque equal to the maximum", whatever was pending. No tick would tell it from any value above; the
+-- writer's 11 does
 abbrev pub OlderReadMaximum : Type 0
 OlderReadMaximum =
-    (p : Pending) (ws : List ℕ) (s : Settings) → ReadInto p ws s → HasStart ws → carriesHoming (layoutOf (latest ws)) ≡ false → s .homing ≡ s .maximum
+    (p : Pending) (ws : List ℕ) (s : Settings) → ReadInto p ws s → HasStart ws → carriesHomingTorque (layoutOf (latest ws)) ≡ false → s .homing ≡ s .maximum
 
--- 02, (iv): "A layout 1 sheet keeps its meaning, and writing it in layout 2 and reading it loses nothing": the same settings are read, in every field; so it is from
--- each layout to each later one
+-- 02, (iv): "A layout 1 sheet keeps its meaning, and writing it in layout 2 and reading it loses nothing": the same settings are read, in every
+-- field; so it is from each layout to each later one
 abbrev pub Rewritten : Type 0
 Rewritten =
     (l m : ℕ) (s : Settings) → sendable l s ≡ true → l ≤ m → isLayout m ≡ true → (p : Pending) → ReadInto p (wordsOf l s) s × ReadInto p (wordsOf m s) s

@@ -15,7 +15,7 @@ use Rattle.modes.specs.Modes.{isMode}
 use Rattle.torque.specs.declared.LimitSet.{LimitSet}
 use Rattle.torque.specs.Limits.{positiveLimit, negativeLimit, ceilingOf, capOf, positiveCap, negativeCap, guarded}
 use Rattle.torque.specs.Torque.{torqueOf}
-use Rattle.torque.specs.Bounded.{Bounded, BaseCaps, StillWithinLimits, WithinHomingTorque}
+use Rattle.torque.specs.Bounded.{Bounded, BaseCaps, StillWithinLimits, CappedInHoming}
 
 -- a bound that is further off
 up-to : (z : ℤ) (m n : ℕ) → z ≤ℤ pos m → m ≤ n → z ≤ℤ pos n
@@ -117,8 +117,8 @@ still-within s mode set t b =
       above-limit = down-to t _ _ (b .above) (cap-limit s mode negative);
     }
 
-pub within-homing : WithinHomingTorque
-within-homing s mode set t e b =
+pub capped-in-homing : CappedInHoming
+capped-in-homing s mode set t e b =
     record {
       below = up-to t _ _ (b .below) (cap-homing s mode (positiveLimit s set) e);
       above = down-to t _ _ (b .above) (cap-homing s mode (negativeLimit s set) e);

@@ -38,9 +38,9 @@ abbrev pub StillWithinLimits : Type 0
 StillWithinLimits = (s : Settings) (mode : Mode) (set : LimitSet) (t : ℤ) → Bounded s mode set t → WithinLimits s set t
 
 -- and in mode 6 the torque is within the homing torque too
-pub record WithinHoming (s : Settings) (t : ℤ) : Type 0 where
+pub record WithinHomingTorque (s : Settings) (t : ℤ) : Type 0 where
   pub below : t ≤ℤ pos (s .homing)
   pub above : negℤ (pos (s .homing)) ≤ℤ t
 
-abbrev pub WithinHomingTorque : Type 0
-WithinHomingTorque = (s : Settings) (mode : Mode) (set : LimitSet) (t : ℤ) → isMode mode Homing ≡ true → Bounded s mode set t → WithinHoming s t
+abbrev pub CappedInHoming : Type 0
+CappedInHoming = (s : Settings) (mode : Mode) (set : LimitSet) (t : ℤ) → isMode mode Homing ≡ true → Bounded s mode set t → WithinHomingTorque s t

@@ -40,7 +40,7 @@ abbrev pub guarded : ℕ → ℕ
 guarded cap = min cap (2 ^ 31 - 1)
 
 abbrev pub boundsOf : ℕ → ℕ → Bounds
-boundsOf negative positive = record { low = negℤ (pos (guarded negative)); high = pos (guarded positive) }
+boundsOf positive negative = record { low = negℤ (pos (guarded negative)); high = pos (guarded positive) }
 
 abbrev pub chosenBounds : Settings → Mode → LimitSet → Bounds
-chosenBounds s mode set = boundsOf (negativeCap s mode set) (positiveCap s mode set)
+chosenBounds s mode set = boundsOf (positiveCap s mode set) (negativeCap s mode set)

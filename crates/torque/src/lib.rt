@@ -46,7 +46,7 @@ fn cap(ceiling: u32, limit: u32) -> u32
 }
 
 fn bounds_of(ceiling: u32, positive: u32, negative: u32) -> Bounds
-    ensures { λ r. ⌜ r ≡ boundsOf (min ceiling negative) (min ceiling positive) ⌝ }
+    ensures { λ r. ⌜ r ≡ boundsOf (min ceiling positive) (min ceiling negative) ⌝ }
 {
     Bounds {
         low: -(cap(ceiling, negative) as i32),

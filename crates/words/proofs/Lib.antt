@@ -3,3 +3,4 @@ pub mod Bits
 pub mod Shifts
 pub mod Spelled
 pub mod Widths
+mod Decoded

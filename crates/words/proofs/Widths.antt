@@ -11,10 +11,10 @@ use Rattle.settings.specs.declared.Settings.{Settings}
 use Rattle.counts.specs.Between.{between}
 use Rattle.ranges.specs.Range.{methodOk, torqueOk, optionOk}
 use Rattle.settings.specs.Ranges.{inRange}
-use Rattle.layouts.specs.Layout.{isLayout, carriesHoming}
+use Rattle.layouts.specs.Layout.{isLayout, carriesHomingTorque}
 use Rattle.settings.proofs.Within.{within, both}
 use Rattle.words.specs.Encode.{topOf, topsOf, optionData, valuesOf, below}
-use Rattle.words.proofs.Bits.{low-below, top-below, small, tops-below, set-below}
+use Rattle.words.proofs.Bits.{low-below, top-below, small, tops-below, set-below, pair-below}
 
 -- each is below 2 ^ 28
 abbrev pub Below : List ℕ → Type 0
@@ -47,10 +47,10 @@ pub option-below : (x : ℕ) → optionOk x ≡ true → x < 2 ^ 8
 option-below x e = either-below (eqb x 2) (eqb x 6) (λ h. omega (arith, eqb-true x 2 h)) (λ h. omega (arith, eqb-true x 6 h)) e
 
 option-data-below : (l : ℕ) (s : Settings) → optionOk (s .option) ≡ true → torqueOk (s .homing) ≡ true → optionData l s < 2 ^ 28
-option-data-below l s o h = go (carriesHoming l)
+option-data-below l s o h = go (carriesHomingTorque l)
   where
     go : (b : Bool) → cond b (s .homing * 2 ^ 8 + s .option) (s .option) < 2 ^ 28
-    go true = omega (arith, option-below (s .option) o, leb-true (s .homing) 3000 h)
+    go true = omega (arith, pair-below (s .homing) (s .option) h (option-below (s .option) o))
     go false = omega (arith, option-below (s .option) o)
 
 module _ (l : ℕ) (s : Settings) where

@@ -7,7 +7,7 @@ use lib.IntN.{ℤ}
 use lib.ListN.{getD}
 use Rattle.counts.specs.Wrap.{signed}
 use Rattle.settings.specs.declared.Settings.{Settings}
-use Rattle.layouts.specs.Layout.{width, carriesHoming}
+use Rattle.layouts.specs.Layout.{width, carriesHomingTorque}
 
 abbrev pub at : List ℕ → ℕ → ℕ
 at d kind = getD d kind 0
@@ -32,11 +32,11 @@ positionFrom layout low top = signed (width layout) ((low + top * 2 ^ 28) % 2 ^ 
 
 -- kind 12: in layout 3 "bits 0 to 7 keep the option", else all of it is the option
 abbrev pub optionFrom : List ℕ → ℕ
-optionFrom d = cond (carriesHoming (layoutOf d)) (at d 12 % 2 ^ 8) (at d 12)
+optionFrom d = cond (carriesHomingTorque (layoutOf d)) (at d 12 % 2 ^ 8) (at d 12)
 
 -- in layout 3 "bits 8 to 19 hold the homing torque"; "Layouts 1 and 2 read as homing torque equal to the maximum"
 abbrev pub homingFrom : List ℕ → ℕ
-homingFrom d = cond (carriesHoming (layoutOf d)) (at d 12 / 2 ^ 8 % 2 ^ 12) (at d 9)
+homingFrom d = cond (carriesHomingTorque (layoutOf d)) (at d 12 / 2 ^ 8 % 2 ^ 12) (at d 9)
 
 -- with those given that layouts carry in their own ways, all else from the data
 abbrev pub settingsFrom : ℤ → ℤ → ℤ → ℕ → ℕ → List ℕ → Settings

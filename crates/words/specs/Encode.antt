@@ -8,7 +8,7 @@ use lib.IntN.{ℤ}
 use lib.ListN.{getD, take}
 use Rattle.counts.specs.Wrap.{modulo}
 use Rattle.settings.specs.declared.Settings.{Settings}
-use Rattle.layouts.specs.Layout.{width, size, carriesHoming}
+use Rattle.layouts.specs.Layout.{width, size, carriesHomingTorque}
 use Rattle.words.specs.Word.{packed}
 
 -- a limit set in one word: positive limit in the low 14 bits, negative in the high 14
@@ -28,7 +28,7 @@ topsOf layout s = topOf layout (s .offset) + topOf layout (s .lower) * 2 ^ 4 + t
 
 -- kind 12: the option; in layout 3 also "bits 8 to 19 hold the homing torque"
 abbrev pub optionData : ℕ → Settings → ℕ
-optionData layout s = cond (carriesHoming layout) (s .homing * 2 ^ 8 + s .option) (s .option)
+optionData layout s = cond (carriesHomingTorque layout) (s .homing * 2 ^ 8 + s .option) (s .option)
 
 -- the data of kinds 0 to 14
 unfoldable pub valuesOf : ℕ → Settings → List ℕ

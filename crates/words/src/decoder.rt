@@ -27,7 +27,7 @@ fn long_position(low: u32, top: u32) -> i32
 fn option(values: [u32; 14]) -> u32
     ensures { λ r. ⌜ r ≡ optionFrom values ⌝ }
 {
-    if layouts::carries_homing(values[0]) {
+    if layouts::carries_homing_torque(values[0]) {
         values[12] % 0x100
     } else {
         values[12]
@@ -38,7 +38,7 @@ fn option(values: [u32; 14]) -> u32
 fn homing(values: [u32; 14]) -> u32
     ensures { λ r. ⌜ r ≡ homingFrom values ⌝ }
 {
-    if layouts::carries_homing(values[0]) {
+    if layouts::carries_homing_torque(values[0]) {
         values[12] / 0x100 % 0x1000
     } else {
         values[9]

@@ -1,7 +1,7 @@
 -- The writer gives the number of the first case that holds, and accepts exactly the acceptable settings that the layout holds.
 -- Assumes nothing.
 use mathlib.Core.Path.{_≡_, refl, sym, _∙_}
-use mathlib.Core.Bool.{Bool, true, false, cond, not, _&&_, _||_, false≢true}
+use mathlib.Core.Bool.{Bool, true, false, cond, not, _&&_, _||_, and-false, false≢true}
 use mathlib.Core.Logic.{_↔_}
 use borrow.Author.Tests.{le-ltb}
 use lib.Dec.{eqb}
@@ -11,7 +11,7 @@ use Rattle.settings.specs.declared.Verdict.the-variants.{Accepted, Refused}
 use Rattle.settings.specs.Refusal.{verdictNumber, firstOf}
 use Rattle.settings.specs.Ranges.{positionsFit}
 use Rattle.settings.proofs.Within.{both}
-use Rattle.layouts.specs.Layout.{isLayout, longValue, carriesHoming, homingIsMaximum, homingTorqueLost}
+use Rattle.layouts.specs.Layout.{isLayout, longValue, carriesHomingTorque, homingIsMaximum, homingTorqueLost}
 use Rattle.checks.specs.Check.{acceptable, verdictOf}
 use Rattle.checks.specs.Cases as checks
 use Rattle.checks.proofs.Numbers.{check-number, refused-accepted, accepts}
@@ -36,15 +36,11 @@ write-number layout s buffer = go (not (isLayout layout)) (bufferTooShort layout
 pub accepts-exactly : AcceptsExactly
 unfolding writeVerdict
 accepts-exactly layout s buffer h =
-    rw (le-ltb (length buffer) (needed layout) h) (go (isLayout layout) (eqb layout 1) (positionsFit 28 s) refl (carriesHoming layout) (homingIsMaximum s))
+    rw (le-ltb (length buffer) (needed layout) h) (go (isLayout layout) (eqb layout 1) (positionsFit 28 s) refl (carriesHomingTorque layout) (homingIsMaximum s))
   where
     -- 32 bits hold all that is acceptable
     wide : (verdictOf s ≡ Accepted) ↔ (positionsFit 32 s && true && acceptable s ≡ true)
     wide = (λ e. let a = accepts s .0 e in rw (positions-32 s a, a), λ e. accepts s .1 (both (positionsFit 32 s && true) (acceptable s) e .1))
-
-    lost : (b : Bool) → b && false ≡ false
-    lost true = refl
-    lost false = refl
 
     -- b: layout 1, f: its 28 bits are enough, c: the layout carries a homing torque, m: that is the maximum
     go : (k b f : Bool) → positionsFit 28 s ≡ f → (c m : Bool)
@@ -57,4 +53,4 @@ accepts-exactly layout s buffer h =
     go true true true p false false = rw p (refused-accepted HomingTorqueLost, λ e. absurd (false≢true e))
     go true false f p true m = wide
     go true false f p false true = wide
-    go true false f p false false = (refused-accepted HomingTorqueLost, λ e. absurd (false≢true (sym (lost (positionsFit 32 s)) ∙ both _ (acceptable s) e .0)))
+    go true false f p false false = (refused-accepted HomingTorqueLost, λ e. absurd (false≢true (sym (and-false (positionsFit 32 s)) ∙ both _ (acceptable s) e .0)))

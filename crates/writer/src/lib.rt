@@ -54,7 +54,7 @@ fn option_data(layout: u32, s: Settings) -> u32
     requires { ⌜ inRange s ≡ true ⌝ }
     ensures { λ r. ⌜ r ≡ optionData layout s ⌝ }
 {
-    if layouts::carries_homing(layout) {
+    if layouts::carries_homing_torque(layout) {
         s.homing * 0x100 + s.option
     } else {
         s.option
@@ -107,7 +107,7 @@ pub fn write(layout: u32, s: Settings, buffer: &mut [u32]) -> Verdict
     if layouts::is_long(layout, s) {
         return Verdict::Refused(Refusal::LongValue);
     }
-    if layouts::loses_homing(layout, s) {
+    if layouts::loses_homing_torque(layout, s) {
         return Verdict::Refused(Refusal::HomingTorqueLost);
     }
     let verdict = checks::check(s);

@@ -250,7 +250,7 @@ impl<W: Write> Script<W> {
         for settings in OUT_OF_REACH.map(rail) {
             self.words(&words_in(2, &settings));
         }
-        self.same_in_both();
+        self.same_in_all();
     }
 
     /// Gear 1 to 1, by small numbers and by great ones: the stops at ±2^30 from the offset, and one beyond.
@@ -302,10 +302,10 @@ impl<W: Write> Script<W> {
         }
     }
 
-    /// A layout 1 sheet written in layout 2: what is homed and followed under one is under the other.
-    fn same_in_both(&mut self) {
+    /// A layout 1 sheet written in each later layout: what is homed and followed under one is under the others.
+    fn same_in_all(&mut self) {
         let below = Settings { offset: -7, lower_stop: -PLACE, upper_stop: -3, denominator: 3, numerator: 1, ..sheet_s() };
-        for layout in [2, 1, 2] {
+        for layout in [2, 1, 3, 2] {
             let settings = Settings { method: 35, ..below.clone() };
             self.take_over_words(&words_in(layout, &settings));
             self.home_at(0);

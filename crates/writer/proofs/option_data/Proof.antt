@@ -9,8 +9,8 @@ use Rattle.words.proofs.Widths.{option-below}
 use Rattle.writer.proofs.option_data.Statement.{statement}
 use Rattle.writer.proofs.option_data.Tie as tie
 
-carries-homing-requires : tie.Need-carries-homing-requires
-carries-homing-requires c κs = search needs
+carries-homing-torque-requires : tie.Need-carries-homing-torque-requires
+carries-homing-torque-requires c κs = search needs
 
 mul-result : tie.Need-mul-result
 mul-result c =
@@ -25,10 +25,10 @@ add-result c =
     record { fits = omega (arith, leb-true (b .args .s .homing) 3000 (w .homing), option-below (b .args .s .option) (w .option)) }
 
 returns : tie.Need-returns
-returns c = let t = c .before .before in rw (sym (t .before .carries-homing .ensures), t .if1 .taken)
+returns c = let t = c .before .before in rw (sym (t .before .carries-homing-torque .ensures), t .if1 .taken)
 
 returns-2 : tie.Need-returns-2
-returns-2 c = rw (sym (c .before .carries-homing .ensures), c .if1 .left)
+returns-2 c = rw (sym (c .before .carries-homing-torque .ensures), c .if1 .left)
 
 pub option-data-spec : {M : Type 1} → statement M
-option-data-spec = tie.close (tie.spec carries-homing-requires mul-result add-result returns returns-2)
+option-data-spec = tie.close (tie.spec carries-homing-torque-requires mul-result add-result returns returns-2)

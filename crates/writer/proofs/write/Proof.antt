@@ -89,8 +89,8 @@ returns-3 c =
     long (a .layout) (a .s) (a .buffer .now) (known-in (z .before)) (rw (z .size .ensures) at (l .before .if2 .left)) (sym (l .is-long .ensures) ∙ c .if3 .taken) in
     (sym e, rw e)
 
-loses-homing-requires : tie.Need-loses-homing-requires
-loses-homing-requires c κs = search needs
+loses-homing-torque-requires : tie.Need-loses-homing-torque-requires
+loses-homing-torque-requires c κs = search needs
 
 returns-4 : tie.Need-returns-4
 returns-4 c =
@@ -101,7 +101,7 @@ returns-4 c =
     let a = z .before .before .before .before .args in
     let e =
     lost (a .layout) (a .s) (a .buffer .now) (known-in (z .before)) (rw (z .size .ensures) at (l .before .if2 .left)) (sym (l .is-long .ensures) ∙ g .if3 .left)
-    (sym (h .loses-homing .ensures) ∙ c .if4 .taken) in
+    (sym (h .loses-homing-torque .ensures) ∙ c .if4 .taken) in
     (sym e, rw e)
 
 -- the writer's own tests were passed
@@ -114,7 +114,7 @@ own c =
     let z = l .before .before in
     let a = z .before .before .before .before .args in
     left (a .layout) (a .s) (a .buffer .now) (known-in (z .before)) (rw (z .size .ensures) at (l .before .if2 .left)) (sym (l .is-long .ensures) ∙ g .if3 .left)
-    (sym (h .loses-homing .ensures) ∙ c .if4 .left)
+    (sym (h .loses-homing-torque .ensures) ∙ c .if4 .left)
 
 check-requires : tie.Need-check-requires
 check-requires c κs = search needs
@@ -177,7 +177,7 @@ write-spec =
     returns-2
     is-long-requires
     returns-3
-    loses-homing-requires
+    loses-homing-torque-requires
     returns-4
     check-requires
     enum-known-verdict

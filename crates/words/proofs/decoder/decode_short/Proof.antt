@@ -1,21 +1,13 @@
 -- `words::decoder::decode_short` meets its contract: over 28 bits the top ones vanish.
 -- Assumes nothing.
-use Prim.Native.Nat.{ℕ, _/_, _%_, _^_}
-use mathlib.Core.Path.{_≡_, ap, _∙_}
-use mathlib.Core.Bool.{true}
-use mathlib.Core.List.{List, [], _∷_, _++_}
-use native.Mathlib.Omega.{arith}
-use borrow.Author.Needs.{needs}
-use borrow.Author.Tests.{eqb-true}
-use lib.Dec.{eqb}
-use lib.IntN.{ℤ}
+use mathlib.Core.Path.{_≡_, _∙_}
 use lib.ListN.{length}
 use mir.Facts.{toZ-ofZ}
 use mir.Syntax.{w32}
 use mir.Val.{SFits}
-use Rattle.counts.specs.Wrap.{signed}
-use Rattle.words.specs.Decode.{at, layoutOf, positionFrom, optionFrom, homingFrom, settingsFrom, settingsOf}
-use Rattle.words.proofs.Spelled.{spelled, spell}
+use Rattle.words.specs.Decode.{at}
+use Rattle.words.proofs.Decoded.{short, decoded}
+use borrow.Author.Needs.{needs}
 use Rattle.words.proofs.decoder.decode_short.Statement.{statement}
 use Rattle.words.proofs.decoder.decode_short.Tie as tie
 
@@ -46,26 +38,6 @@ homing-requires c κs = search needs
 decode-with-requires : tie.Need-decode-with-requires
 decode-with-requires c κs = search needs
 
-short : (x t : ℕ) → signed 28 (x % 2 ^ 28) ≡ positionFrom 1 x t
-unfolding positionFrom
-short x t = ap (signed 28) (omega arith)
-
--- three positions, the option and the homing torque decide the rest
-built : (v : List ℕ) (tops : ℕ) → length v ≡ 14 → eqb (layoutOf v) 1 ≡ true → {o l u : ℤ} {p h : ℕ}
-    → o ≡ signed 28 (at v 4 % 2 ^ 28) → l ≡ signed 28 (at v 7 % 2 ^ 28) → u ≡ signed 28 (at v 8 % 2 ^ 28)
-    → p ≡ optionFrom v → h ≡ homingFrom v → settingsFrom o l u p h v ≡ settingsOf (v ++ tops ∷ [])
-unfolding settingsOf spell
-built v tops n e a b c d f =
-    rw (
-      d,
-      f,
-      a ∙ short (at v 4) (tops % 2 ^ 4),
-      b ∙ short (at v 7) (tops / 2 ^ 4 % 2 ^ 4),
-      c ∙ short (at v 8) (tops / 2 ^ 8 % 2 ^ 4),
-      spelled 14 v n,
-      eqb-true (layoutOf v) 1 e,
-    )
-
 returns : tie.Need-returns
 returns c tops =
     let h = c .before in
@@ -73,13 +45,17 @@ returns c tops =
     let u = p .before in
     let l = u .before in
     let o = l .before in
+    let e = o .before .pre in
     let v = o .before .args .t1 in
     let n : length v ≡ 14 = search needs in
     let fo : SFits w32 (o .short-position .result) = search needs in
     let fl : SFits w32 (l .short-position2 .result) = search needs in
     let fu : SFits w32 (u .short-position3 .result) = search needs in
     c .decode-with .ensures
-    ∙ built v tops n (o .before .pre) (toZ-ofZ fo ∙ o .short-position .ensures) (toZ-ofZ fl ∙ l .short-position2 .ensures) (toZ-ofZ fu ∙ u .short-position3 .ensures)
+    ∙ decoded v tops n
+    (toZ-ofZ fo ∙ o .short-position .ensures ∙ short (at v 0) _ _ e)
+    (toZ-ofZ fl ∙ l .short-position2 .ensures ∙ short (at v 0) _ _ e)
+    (toZ-ofZ fu ∙ u .short-position3 .ensures ∙ short (at v 0) _ _ e)
     (p .option .ensures) (h .homing .ensures)
 
 pub decode-short-spec : {M : Type 1} → statement M

@@ -5,11 +5,11 @@ use borrow.Author.Needs.{needs}
 use Rattle.words.proofs.decoder.homing.Statement.{statement}
 use Rattle.words.proofs.decoder.homing.Tie as tie
 
-array-read-carries-homing : tie.Need-array-read-carries-homing
-array-read-carries-homing c = search needs
+array-read-carries-homing-torque : tie.Need-array-read-carries-homing-torque
+array-read-carries-homing-torque c = search needs
 
-carries-homing-requires : tie.Need-carries-homing-requires
-carries-homing-requires c κs = search needs
+carries-homing-torque-requires : tie.Need-carries-homing-torque-requires
+carries-homing-torque-requires c κs = search needs
 
 array-read-result : tie.Need-array-read-result
 array-read-result c = search needs
@@ -18,17 +18,17 @@ array-read-result-2 : tie.Need-array-read-result-2
 array-read-result-2 c = search needs
 
 returns : tie.Need-returns
-returns c = rw (sym (c .before .carries-homing .ensures), c .if1 .taken)
+returns c = rw (sym (c .before .carries-homing-torque .ensures), c .if1 .taken)
 
 returns-2 : tie.Need-returns-2
-returns-2 c = rw (sym (c .before .carries-homing .ensures), c .if1 .left)
+returns-2 c = rw (sym (c .before .carries-homing-torque .ensures), c .if1 .left)
 
 pub homing-spec : {M : Type 1} → statement M
 homing-spec =
     tie.close
     (tie.spec
-    array-read-carries-homing
-    carries-homing-requires
+    array-read-carries-homing-torque
+    carries-homing-torque-requires
     array-read-result
     array-read-result-2
     returns
