@@ -7,11 +7,11 @@ use native.Mathlib.Omega.{arith}
 use borrow.Author.Tests.{eqb-true, eqb-false}
 use lib.Dec.{eqb}
 use Rattle.settings.specs.declared.Refusal.{Refusal}
-use Rattle.settings.specs.declared.Refusal.the-variants.{OutOfSequence, UnknownLayout, OutOfRange, ChecksumMismatch, LimitsCrossed, OutOfReach, DriveActive, NoSettings, BufferTooShort, LongValue, HomingTorqueLost}
+use Rattle.settings.specs.declared.Refusal.the-variants.{OutOfSequence, UnknownLayout, OutOfRange, ChecksumMismatch}
 use Rattle.settings.specs.declared.Verdict.{Verdict}
 use Rattle.settings.specs.declared.Verdict.the-variants.{Accepted, Refused}
 use Rattle.settings.specs.declared.Settings.{Settings}
-use Rattle.settings.specs.Refusal.{numberOf}
+use Rattle.settings.proofs.Numbered.{not-zero}
 use Rattle.layouts.specs.Layout.{isLayout, size}
 use Rattle.checks.specs.Check.{limitsVerdict}
 use Rattle.words.specs.Word.{kindOf, dataOf, packed}
@@ -34,26 +34,12 @@ pub data ReadBy (p : Pending) (w : ℕ) : Type 0 where
   refuses : (r : Refusal) → readOf p w ≡ refused r → ReadBy p w
   accepted : AcceptedBy p w → ReadBy p w
 
--- no refusal has number 0
-some-number : (r : Refusal) → numberOf r ≡ 0 → ⊥
-some-number OutOfSequence e = omega arith
-some-number UnknownLayout e = omega arith
-some-number OutOfRange e = omega arith
-some-number ChecksumMismatch e = omega arith
-some-number LimitsCrossed e = omega arith
-some-number OutOfReach e = omega arith
-some-number DriveActive e = omega arith
-some-number NoSettings e = omega arith
-some-number BufferTooShort e = omega arith
-some-number LongValue e = omega arith
-some-number HomingTorqueLost e = omega arith
-
 -- the number of a reading
 abbrev numbered : Reading → ℕ
 numbered r = outcomeNumber (r .outcome)
 
 not-refused : {X : Type 0} (p : Pending) (w : ℕ) (r : Refusal) → readOf p w ≡ refused r → numbered (readOf p w) ≡ 0 → X
-not-refused p w r e z = absurd (some-number r (subst (λ (a : Reading). numbered a ≡ 0) e z))
+not-refused p w r e z = absurd (not-zero r (subst (λ (a : Reading). numbered a ≡ 0) e z))
 
 module _ (p : Pending) (w : ℕ) where
   abbrev s : Settings

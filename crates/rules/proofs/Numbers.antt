@@ -7,9 +7,8 @@ use mathlib.Core.List.{List, [], _∷_, _++_}
 use native.Mathlib.Omega.{arith}
 use borrow.Author.Tests.{ne-eqb, eq-eqb}
 use Rattle.settings.specs.declared.Settings.{Settings}
-use Rattle.settings.specs.declared.Refusal.{Refusal}
-use Rattle.settings.specs.declared.Refusal.the-variants.{OutOfSequence, UnknownLayout, OutOfRange, ChecksumMismatch, LimitsCrossed, OutOfReach, DriveActive, NoSettings, BufferTooShort, LongValue, HomingTorqueLost}
 use Rattle.settings.specs.Refusal.{numberOf, verdictNumber, Test, firstOf}
+use Rattle.settings.proofs.Numbered.{not-zero}
 use Rattle.words.specs.Word.{kindOf}
 use Rattle.words.specs.Encode.{checksumOf}
 use Rattle.reader.specs.Pending.{Pending, Reading, Outcome, Refused, Stored, Complete}
@@ -48,19 +47,6 @@ miss-first (t ∷ xs) ys p e = go (t .holds) (λ e. miss-first xs ys (p .1) e) e
         → cond b (t .number) (firstOf (xs ++ ys)) ≡ firstOf ys
     go true k e = absurd (p .0 e)
     go false k e = k e
-
-positive : (r : Refusal) → numberOf r ≡ 0 → ⊥
-positive OutOfSequence e = omega arith
-positive UnknownLayout e = omega arith
-positive OutOfRange e = omega arith
-positive ChecksumMismatch e = omega arith
-positive LimitsCrossed e = omega arith
-positive OutOfReach e = omega arith
-positive DriveActive e = omega arith
-positive NoSettings e = omega arith
-positive BufferTooShort e = omega arith
-positive LongValue e = omega arith
-positive HomingTorqueLost e = omega arith
 
 -- ---- an end word completes settings or is refused, and no other word completes any
 
@@ -101,7 +87,7 @@ word-numbers a w = go (readOf (a .pending) w .outcome) refl
         (sym (numbers (a .pending) w) ∙ ap outcomeNumber e ∙ z)
 
     go : (o : Outcome) → readOf (a .pending) w .outcome ≡ o → verdictNumber (taken b o .verdict) ≡ firstOf (testsOf a w)
-    go (Refused r) e = sym (hit-first (reader.testsOf (a .pending) w) (liveTest a w ∷ []) (numberOf r) (sym (numbers (a .pending) w) ∙ ap outcomeNumber e) (positive r))
+    go (Refused r) e = sym (hit-first (reader.testsOf (a .pending) w) (liveTest a w ∷ []) (numberOf r) (sym (numbers (a .pending) w) ∙ ap outcomeNumber e) (not-zero r))
     go Stored e = sym (no-case Stored e refl ∙ rw (stored-no-end (a .pending) w e))
     go (Complete s) e = live (liveOf (a .motion .state)) refl ∙ sym (no-case (Complete s) e refl ∙ rw (complete-end (a .pending) w s e))
       where
