@@ -30,7 +30,7 @@ use Rattle.control.specs.Control.{controlCommandOf}
 use Rattle.drive.specs.Transitions.{nextState}
 use Rattle.states.specs.Alarm.{leastSet, alarmNumberOf}
 use Rattle.hybrid.specs.Hybrid.{quotientOf, sizeOf, negative, wholePart}
-use Rattle.commands.specs.declared.Command.the-variants.{Homing, Position, Torque, Rest}
+use Rattle.commands.specs.declared.Command.the-variants.{Homing, Torque, Rest}
 use Rattle.commands.specs.Commands.{withBit31}
 use Rattle.legs.specs.Events.{switchesIn, eventCounts, limitCounts}
 use Rattle.legs.specs.Routes.{rowOf}
@@ -55,13 +55,10 @@ use Rattle.demands.specs.Replies.{Reply, replies}
 use Rattle.demands.specs.Sheet.{words-S, settings-S, S-with}
 use Rattle.demands.specs.LongRails.{words-S-2, longRails}
 use Rattle.demands.specs.HomingTorque.{words-S-3, homingTorques}
-use Rattle.demands.specs.Lists.{off, HOM, Z, POT, NOT, inputs, still-tick, moving-tick, alarmed, ask, ask-in, hybrid, start, at, halted, released, S, with, enabling, enabled, enabled-with, after, number, torque, position, speed, status, alarm, sameCounts}
+use Rattle.demands.specs.Lists.{off, HOM, Z, POT, NOT, inputs, still-tick, moving-tick, alarmed, ask, ask-in, hybrid, start, at, halted, released, target, rehearsed, S, with, enabling, enabled, enabled-with, after, number, torque, position, speed, status, alarm, sameCounts}
 
 abbrev homed-at-0 : List Event
 homed-at-0 = enabled ++ start 10 HOM ∷ at 0 off ∷ []
-
-abbrev target : ℤ → Event
-target z = ask (Position z (pos 0))
 
 abbrev targets : List Event
 targets = target (pos 5) ∷ target (minus 5) ∷ target (pos 1001) ∷ target (pos 1000) ∷ []
@@ -75,9 +72,6 @@ edges = target (pos 2047) ∷ target (pos 2048) ∷ target (pos 2049) ∷ target
 
 abbrev requests : List Event
 requests = ask (Torque (pos 900)) ∷ ask (Torque (minus 700)) ∷ ask (Torque (minus 32768)) ∷ ask (Torque (pos 800)) ∷ []
-
-abbrev rehearsed : List Event
-rehearsed = start 100 off ∷ at 110 HOM ∷ at 112 off ∷ at 108 HOM ∷ at 103 off ∷ target (pos 0) ∷ []
 
 -- the starred ones, and those between them
 unfoldable pub table : List Bool

@@ -13,7 +13,7 @@ use Rattle.words.specs.Word.{sameWords}
 use Rattle.words.specs.Encode.{wordsOf}
 use Rattle.writer.specs.Write.{writeVerdict}
 use Rattle.commands.specs.declared.Command.{Command}
-use Rattle.commands.specs.declared.Command.the-variants.{Hybrid, Homing, Rest}
+use Rattle.commands.specs.declared.Command.the-variants.{Hybrid, Homing, Position, Rest}
 use Rattle.legs.specs.declared.events.Switches.{Switches}
 use Rattle.legs.specs.Events.{allOff, switchesIn}
 use Rattle.torque.specs.declared.LimitSet.{LimitSet}
@@ -95,6 +95,14 @@ halted position switches = inputs 0x011F (Homing (pos 0)) position switches fals
 
 abbrev pub released : ℕ → Switches → Event
 released position switches = inputs 0x000F (Homing (pos 0)) position switches false
+
+-- a position to follow
+abbrev pub target : ℤ → Event
+target z = ask (Position z (pos 0))
+
+-- 01's route of method 23, homed at 103, and then target 0
+abbrev pub rehearsed : List Event
+rehearsed = start 100 off ∷ at 110 HOM ∷ at 112 off ∷ at 108 HOM ∷ at 103 off ∷ target (pos 0) ∷ []
 
 -- the words of S, and of S with other data of one kind
 abbrev pub S : List Event

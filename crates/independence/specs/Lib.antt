@@ -1,0 +1,5 @@
+pub mod Alike
+pub mod Takeovers
+pub mod Leg
+pub mod Rehearsals
+pub mod Examples
