@@ -11,17 +11,17 @@ use Rattle.demands.proofs.Matches.{phaseFor}
 use Rattle.demands.proofs.Kept.{matches}
 use Rattle.independence.specs.Alike.{EqualInForce, runningFrom}
 use Rattle.independence.specs.Leg.{LegTellsRoute, ReachedAlike}
-use Rattle.independence.proofs.Routes.{On-route, idle, all-steps, starts, tells-route}
+use Rattle.independence.proofs.Routes.{OnRoute, idle, all-steps, starts, tells-route}
 use Rattle.independence.proofs.Alike.{answered-alike}
 
-on-route : (k : Known) (s : Settings) → k .settings ≡ Set s → On-route (s .method) (phaseFor (k .settings) (k .since))
+on-route : (k : Known) (s : Settings) → k .settings ≡ Set s → OnRoute (s .method) (phaseFor (k .settings) (k .since))
 on-route k s e = rw e (go (k .since))
   where
-    go : (since : Since) → On-route (s .method) (phaseFor (Set s) since)
+    go : (since : Since) → OnRoute (s .method) (phaseFor (Set s) since)
     go never = idle
     go (start switches views) = all-steps (s .method) (starts (s .method) switches) views
 
-reached : (es : List Event) (s : Settings) → axisOf es .active ≡ Set s → On-route (s .method) (axisOf es .motion .phase)
+reached : (es : List Event) (s : Settings) → axisOf es .active ≡ Set s → OnRoute (s .method) (axisOf es .motion .phase)
 reached es s e = rw (matches es .phase) (on-route (known es) s (sym (matches es .active) ∙ e))
 
 pub leg-tells-route : LegTellsRoute

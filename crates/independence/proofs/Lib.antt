@@ -4,3 +4,4 @@ pub mod Alike
 pub mod Routes
 pub mod Leg
 pub mod Rehearsals
+pub mod Examples

@@ -12,7 +12,6 @@ use Rattle.words.specs.Encode.{checksumOf, wordsFrom, sent, wordsOf}
 use Rattle.reader.specs.Read.{emptyPending}
 use Rattle.states.specs.declared.State.{State}
 use Rattle.states.specs.States.{liveOf}
-use Rattle.ticks.specs.declared.Tick.{Tick}
 use Rattle.ticks.specs.Motion.{Motion, idled}
 use Rattle.rules.specs.Axis.{Axis}
 use Rattle.rules.specs.Word.{withPending, wordOf}
@@ -20,10 +19,10 @@ use Rattle.demands.specs.Events.{Event, word, tick}
 use Rattle.demands.specs.Replies.{axisFrom}
 use Rattle.demands.specs.Whole.{wordsIn, afterTakeover}
 use Rattle.demands.proofs.Whole.{round-trip}
-use Rattle.independence.specs.Alike.{answersFrom, isTakeover}
+use Rattle.independence.specs.Alike.{EqualButTravel, EqualDrive, Alike, answersFrom, isTakeover}
 use Rattle.independence.specs.Rehearsals.{RehearsalsAlike}
 use Rattle.independence.proofs.Takeovers.{other-leaves, takeover-leaves}
-use Rattle.independence.proofs.Alike.{ticks-alike}
+use Rattle.independence.proofs.Tick.{ticks-alike}
 
 words-first : (a : Axis) (ws : List ℕ) (es : List Event) → answersFrom a (map word ws ++ es) ≡ answersFrom (axisFrom a (map word ws)) es
 words-first a [] es = refl
@@ -57,18 +56,22 @@ taken-over a l s ok dead =
     let t = round-trip a l s (map word front) w ok same (subst (λ (x : State). liveOf x ≡ false) (sym state) dead) in
     ap (axisFrom a) (map-append word front (w ∷ [])) ∙ t .left ∙ rw idle
 
-pub rehearsals-alike : RehearsalsAlike
-rehearsals-alike a b l m s r ts d dead ok-s ok-r h n =
-    let same = ticks-alike (afterTakeover s (withPending a emptyPending)) (afterTakeover r (withPending b emptyPending)) ts
-    (record {
+alike-after : (a b : Axis) (s r : Settings) → EqualDrive (a .motion) (b .motion) → EqualButTravel s r → Alike (afterTakeover s a) (afterTakeover r b)
+alike-after a b s r d h =
+    record {
       settings = h;
       drive = record { state = d .state; mode = d .mode; alarm = d .alarm; control = d .control; switches = d .switches; position = d .position };
       homed = refl;
       error = refl;
       leg = refl;
-    }) n in
+    }
+
+pub rehearsals-alike : RehearsalsAlike
+rehearsals-alike a b l m s r ts d dead ok-s ok-r h n =
+    let one = afterTakeover s (withPending a emptyPending) in
+    let other = afterTakeover r (withPending b emptyPending) in
     words-first a (wordsOf l s) (map tick ts)
     ∙ ap (λ (c : Axis). answersFrom c (map tick ts)) (taken-over a l s ok-s dead)
-    ∙ same
+    ∙ ticks-alike one other ts (alike-after (withPending a emptyPending) (withPending b emptyPending) s r d h) n
     ∙ ap (λ (c : Axis). answersFrom c (map tick ts)) (sym (taken-over b m r ok-r (subst (λ (x : State). liveOf x ≡ false) (d .state) dead)))
     ∙ sym (words-first b (wordsOf m r) (map tick ts))

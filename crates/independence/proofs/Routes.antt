@@ -2,11 +2,10 @@
 -- one after a leg. These are a few numbers for each method, and it is computed over the table that no two of them begin with the same leg.
 -- Assumes nothing.
 use Prim.Native.Nat.{ℕ, _+_, _*_, _/_}
-use mathlib.Core.Path.{_≡_, refl, sym, ap, _∙_, subst}
+use mathlib.Core.Path.{_≡_, refl, ap}
 use mathlib.Core.Bool.{Bool, true, false, cond, not, _&&_, _||_, false≢true}
 use mathlib.Core.List.{List, [], _∷_, _++_}
 use mathlib.Core.Option.{Option, none, some, Option·some-injective, Option·none-ne-some, Option·some-ne-none}
-use native.Mathlib.Omega.{arith}
 use borrow.Author.Tests.{eqb-true, eq-eqb}
 use lib.Dec.{eqb}
 use Rattle.settings.proofs.Within.{both}
@@ -96,52 +95,52 @@ has-picked m false = rw (eq-eqb (mainRoute m) (mainRoute m) refl)
 
 -- ---- homing stands on the routes of its method
 
-pub data On-route (m : ℕ) : Phase → Type 0 where
-  idle : On-route m Idle
-  homed : On-route m Homed
-  failed : On-route m Failed
-  runs : {n : ℕ} → Sound m → has n (routes m) ≡ true → On-route m (Running n)
+pub data OnRoute (m : ℕ) : Phase → Type 0 where
+  idle : OnRoute m Idle
+  homed : OnRoute m Homed
+  failed : OnRoute m Failed
+  runs : {n : ℕ} → Sound m → has n (routes m) ≡ true → OnRoute m (Running n)
 
 module _ (m : ℕ) (k : Sound m) where
-  enters : (n : ℕ) → (eqb n 0 || has n (routes m)) ≡ true → On-route m (entered n)
+  enters : (n : ℕ) → (eqb n 0 || has n (routes m)) ≡ true → OnRoute m (entered n)
   enters n h = go (eqb n 0) h
     where
-      go : (b : Bool) → (b || has n (routes m)) ≡ true → On-route m (cond b Homed (Running n))
+      go : (b : Bool) → (b || has n (routes m)) ≡ true → OnRoute m (cond b Homed (Running n))
       go true h = homed
       go false h = runs k h
 
-  meets-limit : (n : ℕ) → On-route m (limitAt m n)
+  meets-limit : (n : ℕ) → OnRoute m (limitAt m n)
   meets-limit n = go (turnsIn n && not (eqb (turnRoute m) 0))
     where
-      go : (b : Bool) → On-route m (cond b (Running (turnRoute m)) Failed)
+      go : (b : Bool) → OnRoute m (cond b (Running (turnRoute m)) Failed)
       go true = runs k (has-turn m)
       go false = failed
 
-  steps : (n : ℕ) → has n (routes m) ≡ true → (v : View) → On-route m (runningOf m n v)
+  steps : (n : ℕ) → has n (routes m) ≡ true → (v : View) → OnRoute m (runningOf m n v)
   unfolding runningOf
   steps n h v = go (v .kept) (eventCounts (legFrom n) v) (limitCounts (legFrom n) v)
     where
-      go : (a b c : Bool) → On-route m (cond a (cond b (entered (n / 256)) (cond c (limitAt m n) (Running n))) Idle)
+      go : (a b c : Bool) → OnRoute m (cond a (cond b (entered (n / 256)) (cond c (limitAt m n) (Running n))) Idle)
       go false b c = idle
       go true true c = enters (n / 256) (of-every (goes-on (routes m)) (routes m) (k .closed) n h)
       go true false true = meets-limit n
       go true false false = runs k h
 
-step : (m : ℕ) {p : Phase} → On-route m p → (v : View) → On-route m (stepOf p m v)
+step : (m : ℕ) {p : Phase} → OnRoute m p → (v : View) → OnRoute m (stepOf p m v)
 step m idle v = idle
 step m homed v = homed
 step m failed v = failed
 step m (runs k h) v = steps m k _ h v
 
-pub all-steps : (m : ℕ) {p : Phase} → On-route m p → (vs : List View) → On-route m (stepAll p m vs)
+pub all-steps : (m : ℕ) {p : Phase} → OnRoute m p → (vs : List View) → OnRoute m (stepAll p m vs)
 all-steps m o [] = o
 all-steps m o (v ∷ vs) = all-steps m (step m o v) vs
 
-pub starts : (m : ℕ) (s : Switches) → On-route m (startOf m s)
+pub starts : (m : ℕ) (s : Switches) → OnRoute m (startOf m s)
 unfolding startOf startRoute
 starts m s = go (rowOf m) refl
   where
-    go : (o : Option Row) → rowOf m ≡ o → On-route m (startIn m s o)
+    go : (o : Option Row) → rowOf m ≡ o → OnRoute m (startIn m s o)
     go none e = idle
     go (some r) e = enters m (computed m r e) (startRoute m s) (or-right (eqb (startRoute m s) 0) (has (startRoute m s) (routes m)) (has-picked m (skips m s)))
 
@@ -153,13 +152,13 @@ one-route m k n l h g e =
     eqb-true n l (rw (ap legNumber e, eq-eqb (legNumber (legFrom l)) (legNumber (legFrom l)) refl) at t)
 
 -- where one does not run, neither does the other
-at-rest : (m : ℕ) {q : Phase} → On-route m q → none ≡ runningLeg q → none ≡ runningFrom q
+at-rest : (m : ℕ) {q : Phase} → OnRoute m q → none ≡ runningLeg q → none ≡ runningFrom q
 at-rest m idle e = refl
 at-rest m homed e = refl
 at-rest m failed e = refl
 at-rest m (runs k h) e = absurd (Option·none-ne-some _ e)
 
-pub tells-route : (m : ℕ) {p q : Phase} → On-route m p → On-route m q → runningLeg p ≡ runningLeg q → runningFrom p ≡ runningFrom q
+pub tells-route : (m : ℕ) {p q : Phase} → OnRoute m p → OnRoute m q → runningLeg p ≡ runningLeg q → runningFrom p ≡ runningFrom q
 tells-route m idle o e = at-rest m o e
 tells-route m homed o e = at-rest m o e
 tells-route m failed o e = at-rest m o e

@@ -1,7 +1,7 @@
 -- What a word that takes over leaves, and any other: by the ways in which a word is read. Of the words that take nothing over no tick tells.
 -- Assumes nothing.
 use Prim.Native.Nat.{ℕ}
-use mathlib.Core.Path.{_≡_, refl, sym, ap, _∙_, subst}
+use mathlib.Core.Path.{_≡_, refl, sym, ap, _∙_}
 use mathlib.Core.Bool.{Bool, true, false, _&&_, false≢true}
 use mathlib.Core.List.{List, [], _∷_, map}
 use native.Mathlib.Omega.{arith}
@@ -15,7 +15,7 @@ use Rattle.layouts.proofs.Sizes.{size-below}
 use Rattle.words.specs.Word.{kindOf}
 use Rattle.words.specs.Encode.{checksumOf}
 use Rattle.words.specs.Decode.{settingsOf}
-use Rattle.reader.specs.Pending.{Pending, Reading}
+use Rattle.reader.specs.Pending.{Reading}
 use Rattle.reader.specs.Read.{emptyPending, complete, layoutIn, readOf}
 use Rattle.reader.specs.Cases.{isEnd}
 use Rattle.reader.proofs.Accepted.{ReadBy, refuses, accepted, begins, keeps, closes, read-by}
@@ -24,10 +24,10 @@ use Rattle.answers.specs.declared.Answer.{Answer}
 use Rattle.rules.specs.Axis.{Axis, Worded}
 use Rattle.rules.specs.Word.{withPending, taken, wordOf}
 use Rattle.rules.specs.Tick.{tickOf}
-use Rattle.demands.specs.Events.{Event, word, tick}
+use Rattle.demands.specs.Events.{word, tick}
 use Rattle.demands.specs.Whole.{afterTakeover}
 use Rattle.demands.proofs.Whole.{pending-unseen-from}
-use Rattle.independence.specs.Alike.{answersIn, answersFrom, ticksIn, isTakeover, NoTakeover}
+use Rattle.independence.specs.Alike.{answersIn, answersFrom, ticksIn}
 use Rattle.independence.specs.Takeovers.{TakeoverLeaves, OtherLeaves, WordsUnseen}
 
 module _ (a : Axis) (w : ℕ) where
@@ -42,24 +42,24 @@ module _ (a : Axis) (w : ℕ) where
   abbrev settings : Settings
   settings = settingsOf (a .pending .values)
 
-  abbrev Kept : Worded → Type 0
-  Kept x = x .axis ≡ withPending a (x .axis .pending)
-
-  abbrev TookOver : Worded → Type 0
-  TookOver x = x .axis ≡ afterTakeover settings (withPending a emptyPending)
-
+  -- both laws, of what comes of the word
   abbrev takes : Worded → Bool
   takes x = isEnd w && eqb (verdictNumber (x .verdict)) 0
 
+  abbrev Leaves : Worded → Type 0
+  Leaves x =
+      (takes x ≡ false → x .axis ≡ withPending a (x .axis .pending))
+      × (takes x ≡ true → x .axis ≡ afterTakeover settings (withPending a emptyPending))
+
   -- an end word that completes settings takes them over exactly where the drive is not live
-  closing : (b : Bool) → liveOf (a .motion .state) ≡ b → isEnd w ≡ true → (takes (by (complete settings)) ≡ false → Kept (by (complete settings))) × (takes (by (complete settings)) ≡ true → TookOver (by (complete settings)))
+  closing : (b : Bool) → liveOf (a .motion .state) ≡ b → isEnd w ≡ true → Leaves (by (complete settings))
   closing true h i = rw (h, i) (λ n. refl, λ t. absurd (false≢true t))
   closing false h i = rw (h, i) (λ n. absurd (false≢true (sym n)), λ t. refl)
 
   end : (b : Bool) → isEnd w && b ≡ true → kindOf w ≡ 15
   end b t = eqb-true (kindOf w) 15 (both (isEnd w) b t .0)
 
-  leaves : ReadBy (a .pending) w → (takes (wordOf a w) ≡ false → Kept (wordOf a w)) × (takes (wordOf a w) ≡ true → TookOver (wordOf a w))
+  leaves : ReadBy (a .pending) w → Leaves (wordOf a w)
   unfolding checksumOf
   leaves (refuses r e) = rw (as-read _ e) (λ n. refl, λ t. absurd (not-zero r (eqb-true _ 0 (both (isEnd w) _ t .1))))
   leaves (accepted (begins i l e)) = rw (as-read _ e) (λ n. refl, λ t. absurd (omega (arith, i, end _ t)))

@@ -10,7 +10,11 @@ use lib.IntN.{ℤ}
 use Rattle.counts.specs.Bit.{bitOf}
 use Rattle.settings.specs.declared.Settings.{Settings}
 use Rattle.reader.specs.Pending.{Pending}
+use Rattle.legs.specs.Legs.{Leg}
+use Rattle.homing.specs.Moving.{movingLeg}
+use Rattle.homing.specs.Phase.{Phase, Idle, Running, Homed, Failed, homedIn, failedIn}
 use Rattle.states.specs.declared.State.{State}
+use Rattle.position.specs.declared.Followed.the-variants.{Nothing}
 use Rattle.modes.specs.declared.Mode.{Mode}
 use Rattle.modes.specs.declared.Mode.the-variants as mode
 use Rattle.modes.specs.Modes.{isMode}
@@ -21,11 +25,7 @@ use Rattle.torque.specs.declared.LimitSet.{LimitSet}
 use Rattle.torque.specs.declared.LimitSet.the-variants.{Set1, Set2}
 use Rattle.torque.specs.Limits.{capOf}
 use Rattle.torque.specs.Torque.{torqueOf}
-use Rattle.position.specs.declared.Followed.the-variants.{Nothing}
-use Rattle.legs.specs.Legs.{Leg}
-use Rattle.homing.specs.Moving.{movingLeg}
 use Rattle.speed.specs.Speed.{movingSpeed}
-use Rattle.homing.specs.Phase.{Phase, Idle, Running, Homed, Failed, homedIn, failedIn}
 use Rattle.ticks.specs.declared.Tick.{Tick}
 use Rattle.ticks.specs.Motion.{Motion, homeAt}
 use Rattle.ticks.specs.Rules.{matchedIn, demandIn}
@@ -35,13 +35,13 @@ use Rattle.rules.specs.Axis.{Active, Set, Axis}
 use Rattle.rules.specs.Axis as active
 use Rattle.rules.specs.Tick.{tickOf}
 use Rattle.demands.specs.Events.{tick}
-use Rattle.independence.specs.Alike.{EqualButTravel, EqualInForce, runningFrom, Alike, NoPosition, answersFrom}
+use Rattle.independence.specs.Alike.{EqualButTravel, EqualInForce, runningFrom, Alike, NoPosition, answersFrom, TicksAlike}
 
 -- ---- axes that are alike differ in travel, home and what is pending
 
 -- s with the travel of r
-abbrev travelling : Settings → Settings → Settings
-travelling s r =
+abbrev withTravel : Settings → Settings → Settings
+withTravel s r =
     record {
       method = s .method;
       fast = s .fast;
@@ -61,27 +61,27 @@ travelling s r =
       homing = s .homing;
     }
 
-equal-but-travel : (s r : Settings) → EqualButTravel s r → r ≡ travelling s r
+equal-but-travel : (s r : Settings) → EqualButTravel s r → r ≡ withTravel s r
 equal-but-travel s r h =
     rw (h .method, h .fast, h .slow, h .maximum, h .positive1, h .negative1, h .positive2, h .negative2, h .option, h .rated, h .homing)
 
 -- homed, homing error and running leg make the phase
-abbrev phaseBy : Bool → Bool → Option ℕ → Phase
-phaseBy homed error (some route) = Running route
-phaseBy true error none = Homed
-phaseBy false true none = Failed
-phaseBy false false none = Idle
+abbrev phaseWith : Bool → Bool → Option ℕ → Phase
+phaseWith homed error (some route) = Running route
+phaseWith true error none = Homed
+phaseWith false true none = Failed
+phaseWith false false none = Idle
 
-phase-by : (p : Phase) → phaseBy (homedIn p) (failedIn p) (runningFrom p) ≡ p
-phase-by Idle = refl
-phase-by (Running route) = refl
-phase-by Homed = refl
-phase-by Failed = refl
+phase-with : (p : Phase) → phaseWith (homedIn p) (failedIn p) (runningFrom p) ≡ p
+phase-with Idle = refl
+phase-with (Running route) = refl
+phase-with Homed = refl
+phase-with Failed = refl
 
 equal-but-home : (a b : Axis) → Alike a b → b .motion ≡ homeAt (a .motion) (b .motion .home)
 equal-but-home a b h =
     let d = h .drive in
-    let p : a .motion .phase ≡ b .motion .phase = sym (phase-by (a .motion .phase)) ∙ rw (h .homed, h .error, h .leg) (phase-by (b .motion .phase)) in
+    let p : a .motion .phase ≡ b .motion .phase = sym (phase-with (a .motion .phase)) ∙ rw (h .homed, h .error, h .leg) (phase-with (b .motion .phase)) in
     rw (d .state, d .mode, d .alarm, p, d .control, d .switches, d .position)
 
 -- ---- one tick
@@ -97,22 +97,17 @@ abbrev axis : Settings → Pending → Motion → Axis
 axis s pending motion = record { active = Set s; pending = pending; motion = motion }
 
 module _ (s r : Settings) where
-  motion-same : (m : Motion) (home : ℤ) (t : Tick)
-      → motionAfter (travelling s r) (homeAt m home) t ≡ homeAt (motionAfter s m t) (newHome (travelling s r) (homeAt m home) t)
-  unfolding newPhase
-  motion-same m home t = refl
-
-  torque-same : (shown : Mode) (set : LimitSet) (on : Bool) (demand : ℤ) → torqueOf (travelling s r) shown set on demand ≡ torqueOf s shown set on demand
+  torque-same : (shown : Mode) (set : LimitSet) (on : Bool) (demand : ℤ) → torqueOf (withTravel s r) shown set on demand ≡ torqueOf s shown set on demand
   unfolding torqueOf capOf
   torque-same shown Set1 on demand = refl
   torque-same shown Set2 on demand = refl
 
-  speed-same : (leg : Option Leg) → movingSpeed (travelling s r) leg ≡ movingSpeed s leg
+  speed-same : (leg : Option Leg) → movingSpeed (withTravel s r) leg ≡ movingSpeed s leg
   speed-same none = refl
   speed-same (some leg) = refl
 
   answer-same : (t : Tick) → isMode (modeOf (t .command)) mode.Position ≡ false → (m : Motion) (home : ℤ)
-      → answerIn (travelling s r) t (homeAt m home) ≡ answerIn s t m
+      → answerIn (withTravel s r) t (homeAt m home) ≡ answerIn s t m
   unfolding answerIn
   answer-same t e m home =
       rw (
@@ -121,26 +116,26 @@ module _ (s r : Settings) where
         speed-same (movingLeg (m .phase) (bitOf (t .control) 8)),
       )
 
-  -- ---- any ticks
+  -- ---- any ticks: what each leaves is the same but for home, which is computed
 
   ticks-same : (ts : List Tick) → NoPosition ts → (p q : Pending) (m : Motion) (home : ℤ)
-      → answersFrom (axis s p m) (map tick ts) ≡ answersFrom (axis (travelling s r) q (homeAt m home)) (map tick ts)
+      → answersFrom (axis s p m) (map tick ts) ≡ answersFrom (axis (withTravel s r) q (homeAt m home)) (map tick ts)
   unfolding tickOf answeredIn newPhase
   ticks-same [] h p q m home = refl
   ticks-same (t ∷ ts) h p q m home =
       let n = motionAfter s m t in
-      let moved = newHome (travelling s r) (homeAt m home) t in
+      let moved = newHome (withTravel s r) (homeAt m home) t in
       rw (answer-same t (h .0) n moved, ticks-same ts (h .1) p q n moved)
 
-pub alike-ticks : (a b : Axis) (ts : List Tick) → Alike a b → NoPosition ts → answersFrom a (map tick ts) ≡ answersFrom b (map tick ts)
-alike-ticks a b ts h n = go (a .active) refl (b .active) refl (h .settings)
+pub ticks-alike : TicksAlike
+ticks-alike a b ts h n = go (a .active) refl (b .active) refl (h .settings)
   where
     go : (x : Active) → a .active ≡ x → (y : Active) → b .active ≡ y → EqualInForce x y → answersFrom a (map tick ts) ≡ answersFrom b (map tick ts)
     go active.Nothing e y f q = absurd q
     go (Set s) e active.Nothing f q = absurd q
     go (Set s) e (Set r) f q =
         let one : a ≡ axis s (a .pending) (a .motion) = rw e in
-        let other : b ≡ axis (travelling s r) (b .pending) (homeAt (a .motion) (b .motion .home)) =
+        let other : b ≡ axis (withTravel s r) (b .pending) (homeAt (a .motion) (b .motion .home)) =
         rw (f, sym (equal-but-travel s r q), sym (equal-but-home a b h)) in
         ap (λ (c : Axis). answersFrom c (map tick ts)) one
         ∙ ticks-same s r ts n (a .pending) (b .pending) (a .motion) (b .motion .home)

@@ -1,7 +1,7 @@
 -- 02, (vi), "What homing can't know": "Gear, offset and stops change between rehearsals; homing itself must not."
 -- An axis is any axis here, whether words and ticks lead to it or not, and its settings are any, acceptable or not. Gear, offset and stops are called
 -- travel: what a target meets on its way to a count. Stops are position limits.
--- The theorems are `ticks-alike` and `answered-alike`, in `proofs/Alike.antt`.
+-- The theorems are `ticks-alike`, in `proofs/Tick.antt`, and `answered-alike`, in `proofs/Alike.antt`.
 -- Assumes nothing.
 use Prim.Native.Nat.{ℕ}
 use mathlib.Core.Path.{_≡_}
@@ -12,10 +12,10 @@ use lib.Dec.{eqb}
 use Rattle.settings.specs.declared.Settings.{Settings}
 use Rattle.settings.specs.Refusal.{verdictNumber}
 use Rattle.reader.specs.Cases.{isEnd}
+use Rattle.homing.specs.Phase.{Phase, Idle, Running, Homed, Failed, homedIn, failedIn}
 use Rattle.modes.specs.declared.Mode.the-variants.{Position}
 use Rattle.modes.specs.Modes.{isMode}
 use Rattle.commands.specs.Commands.{modeOf}
-use Rattle.homing.specs.Phase.{Phase, Idle, Running, Homed, Failed, homedIn, failedIn}
 use Rattle.ticks.specs.declared.Tick.{Tick}
 use Rattle.ticks.specs.Motion.{Motion}
 use Rattle.answers.specs.declared.Answer.{Answer}
@@ -104,8 +104,12 @@ NoTakeover a [] = Unit {0}
 NoTakeover a (word w ∷ es) = (isTakeover a w ≡ false) × NoTakeover (wordOf a w .axis) es
 NoTakeover a (tick t ∷ es) = NoTakeover (tickOf a t .axis) es
 
--- the same with any words on either side, wherever they fall, as long as none takes over. `TicksAlike` is its case of no words, and proved as that
+-- the same with any words on either side, wherever they fall, as long as none takes over
 abbrev pub AnsweredAlike : Type 0
 AnsweredAlike =
     (a b : Axis) (es fs : List Event) → Alike a b → ticksIn es ≡ ticksIn fs → NoPosition (ticksIn es) → NoTakeover a es → NoTakeover b fs
     → answersFrom a es ≡ answersFrom b fs
+
+-- `TicksAlike` is its case of no words: with ticks alone, these are all of the list, and nothing is taken over
+abbrev pub CaseOfNoWords : Type 0
+CaseOfNoWords = (a : Axis) (ts : List Tick) → (ticksIn (map tick ts) ≡ ts) × NoTakeover a (map tick ts)

@@ -13,39 +13,39 @@ use Rattle.counts.specs.Wrap.{modulo, signed, wrapped}
 use Rattle.counts.specs.Divide.{floorDiv}
 use Rattle.counts.specs.Clamp.{clamped}
 use Rattle.counts.specs.Tests.{minus, same, all}
-use Rattle.settings.specs.declared.Settings.{Settings}
 use Rattle.ranges.specs.Range.{methodOk}
+use Rattle.settings.specs.declared.Settings.{Settings}
 use Rattle.gears.specs.Gear.{gearedOf, inReach}
 use Rattle.checks.specs.Check.{limitsVerdict}
+use Rattle.kinds.specs.Fields.{fieldOk}
 use Rattle.words.specs.Word.{sameWords}
 use Rattle.words.specs.Encode.{total, checksumOf, wordsFrom}
 use Rattle.words.specs.Decode.{positionFrom, settingsFrom, settingsOf}
-use Rattle.kinds.specs.Fields.{fieldOk}
 use Rattle.reader.specs.Pending.{Pending}
 use Rattle.reader.specs.Read.{emptyPending, startRead, fieldRead, endVerdict, endRead, readOf}
-use Rattle.control.specs.Control.{controlCommandOf}
-use Rattle.drive.specs.Transitions.{nextState}
-use Rattle.hybrid.specs.Hybrid.{quotientOf, sizeOf, negative, wholePart}
 use Rattle.legs.specs.Events.{eventCounts, limitCounts}
 use Rattle.legs.specs.Routes.{rowOf}
 use Rattle.legs.specs.Numbers.{mainRoute, turnRoute, skips, startRoute}
 use Rattle.homing.specs.Steps as steps
-use Rattle.torque.specs.Limits.{capOf}
-use Rattle.torque.specs.Torque.{torqueOf}
-use Rattle.speed.specs.Speed.{signedOf}
-use Rattle.position.specs.Position.{countOf}
-use Rattle.status.specs.Statusword.{statuswordOf}
-use Rattle.answers.specs.Answer.{answerIn, answeredIn}
-use Rattle.rules.specs.Word.{wordOf}
-use Rattle.rules.specs.Tick.{tickOf}
-use Rattle.ticks.specs.After.{newPhase}
+use Rattle.homing.specs.Phase.{Idle, Running, Homed, Failed}
+use Rattle.hybrid.specs.Hybrid.{quotientOf, sizeOf, negative, wholePart}
 use Rattle.states.specs.declared.State.the-variants.{SwitchOnDisabled, OperationEnabled, QuickStopActive}
+use Rattle.control.specs.Control.{controlCommandOf}
+use Rattle.drive.specs.Transitions.{nextState}
+use Rattle.position.specs.Position.{countOf}
 use Rattle.modes.specs.declared.Mode.the-variants as mode
 use Rattle.commands.specs.declared.Command.the-variants.{Homing, Torque, Rest}
+use Rattle.torque.specs.Limits.{capOf}
+use Rattle.torque.specs.Torque.{torqueOf}
 use Rattle.torque.specs.declared.LimitSet.the-variants.{Set2}
-use Rattle.homing.specs.Phase.{Idle, Running, Homed, Failed}
+use Rattle.status.specs.Statusword.{statuswordOf}
+use Rattle.speed.specs.Speed.{signedOf}
+use Rattle.ticks.specs.After.{newPhase}
 use Rattle.ticks.specs.Motion.{Motion, freshMotion, driven, phased, homeAt, fed}
+use Rattle.answers.specs.Answer.{answerIn, answeredIn}
 use Rattle.answers.specs.declared.Answer.{Answer}
+use Rattle.rules.specs.Word.{wordOf}
+use Rattle.rules.specs.Tick.{tickOf}
 use Rattle.rules.specs.Axis.{Active, Nothing, Set, Axis, freshAxis}
 use Rattle.demands.specs.Events.{Event, word}
 use Rattle.demands.specs.Replies.{repliesFrom}
@@ -55,7 +55,7 @@ use Rattle.independence.specs.Alike.{Alike, answersFrom}
 
 -- ---- what the tables are made of
 
-abbrev sameAnswer : Answer → Answer → Bool
+abbrev pub sameAnswer : Answer → Answer → Bool
 sameAnswer a b =
     eqb (a .number) (b .number)
     && same (a .torque) (b .torque)
@@ -65,7 +65,7 @@ sameAnswer a b =
     && same (a .mode) (b .mode)
     && eqb (a .alarm) (b .alarm)
 
-abbrev sameAnswers : List Answer → List Answer → Bool
+abbrev pub sameAnswers : List Answer → List Answer → Bool
 sameAnswers [] [] = true
 sameAnswers [] (y ∷ ys) = false
 sameAnswers (x ∷ xs) [] = false
@@ -180,15 +180,19 @@ alike =
 
 -- ---- each thing that the theorem asks for is used
 
-abbrev differ : Axis → Axis → List Event → Bool
-differ a b es = not (sameAnswers (answersFrom a es) (answersFrom b es))
+abbrev pub differ : List Answer → List Answer → Bool
+differ xs ys = not (sameAnswers xs ys)
+
+-- answers that differ so are not equal (`proofs/Examples.antt`)
+abbrev pub DifferMeans : Type 0
+DifferMeans = (xs ys : List Answer) → differ xs ys ≡ true → xs ≡ ys → ⊥
 
 -- S and other settings, from one motion on; two motions, under S
 abbrev settings-differ : Settings → Motion → List Event → Bool
-settings-differ s m es = differ (one m) (under s m) es
+settings-differ s m es = differ (answersFrom (one m) es) (answersFrom (under s m) es)
 
 abbrev motions-differ : Motion → Motion → List Event → Bool
-motions-differ m n es = differ (one m) (one n) es
+motions-differ m n es = differ (answersFrom (one m) es) (answersFrom (one n) es)
 
 -- homed, and not live
 abbrev disabled : Motion
@@ -197,7 +201,7 @@ disabled = driven homed SwitchOnDisabled mode.Homing 0
 unfoldable pub differing : List Bool
 differing =
     -- a position command: of axes that are alike, after homing; with another home; with another numerator, denominator, offset, lower and upper stop
-    differ (one standing) (other standing) (route ++ target (pos 500) ∷ [])
+    differ (answersFrom (one standing) rehearsed) (answersFrom (other standing) rehearsed)
     ∷ motions-differ homed (homeAt homed (pos 1)) (target (pos 0) ∷ [])
     ∷ settings-differ (travelling (pos 0) (minus 1000) (pos 1000) 7 2) homed (target (pos 500) ∷ [])
     ∷ settings-differ (travelling (pos 0) (minus 1000) (pos 1000) 3 5) homed (target (pos 500) ∷ [])
@@ -206,7 +210,7 @@ differing =
     ∷ settings-differ (travelling (pos 0) (minus 1000) (pos 999) 3 2) homed (target (pos 1000) ∷ [])
     -- a gear that differs, and a position command after homing; so too with sheets taken over
     ∷ settings-differ (travelling (pos 0) (minus 1000) (pos 1000) 7 5) standing (route ++ target (pos 500) ∷ [])
-    ∷ not (sameAnswers (answersFrom freshAxis (enabled ++ rehearsed)) (answersFrom freshAxis (map word words-other ++ enabling ++ rehearsed)))
+    ∷ differ (answersFrom freshAxis (enabled ++ rehearsed)) (answersFrom freshAxis (map word words-other ++ enabling ++ rehearsed))
     -- another method, fast or slow speed
     ∷ settings-differ (S-but 1 27) standing route
     ∷ settings-differ (S-but 2 19999) standing route
@@ -222,7 +226,7 @@ differing =
     ∷ settings-differ (S-but 13 3000) standing (ask (hybrid 0x4000_0000 0 0x3f00_0000 0 0) ∷ [])
     ∷ settings-differ (S-by [] 2 250) standing (ask (Homing (pos 900)) ∷ [])
     -- no settings in force
-    ∷ differ (one standing) (axis Nothing emptyPending standing) (ask Rest ∷ [])
+    ∷ differ (answersFrom (one standing) (ask Rest ∷ [])) (answersFrom (axis Nothing emptyPending standing) (ask Rest ∷ []))
     -- another drive state, shown mode, alarm number
     ∷ motions-differ standing (driven standing QuickStopActive mode.Homing 0) (moving-tick 0x000F Rest ∷ [])
     ∷ motions-differ standing (driven standing OperationEnabled mode.Torque 0) (moving-tick 0x000F Rest ∷ [])
@@ -239,7 +243,7 @@ differing =
     ∷ motions-differ running (phased running (Running (mainRoute 23 % 256))) (at 110 HOM ∷ [])
     ∷ motions-differ running (phased running (Running (mainRoute 23 - 32))) (at 100 POT ∷ [])
     -- a takeover, on one side, of S itself
-    ∷ not (sameAnswers (answersFrom (one disabled) (S ++ still-tick 0x0000 Rest ∷ [])) (answersFrom (one disabled) (still-tick 0x0000 Rest ∷ [])))
+    ∷ differ (answersFrom (one disabled) (S ++ still-tick 0x0000 Rest ∷ [])) (answersFrom (one disabled) (still-tick 0x0000 Rest ∷ []))
     ∷ []
 
 holds : (all alike ≡ true) × (all differing ≡ true)
