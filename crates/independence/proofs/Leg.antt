@@ -9,10 +9,9 @@ use Rattle.demands.specs.Replies.{axisOf}
 use Rattle.demands.specs.Known.{Known, Since, never, start, known}
 use Rattle.demands.proofs.Matches.{phaseFor}
 use Rattle.demands.proofs.Kept.{matches}
-use Rattle.independence.specs.Alike.{EqualInForce, runningFrom}
+use Rattle.independence.specs.Alike.{EqualInForce, Alike}
 use Rattle.independence.specs.Leg.{LegTellsRoute, ReachedAlike}
 use Rattle.independence.proofs.Routes.{OnRoute, idle, all-steps, starts, tells-route}
-use Rattle.independence.proofs.Alike.{answered-alike}
 
 on-route : (k : Known) (s : Settings) → k .settings ≡ Set s → OnRoute (s .method) (phaseFor (k .settings) (k .since))
 on-route k s e = rw e (go (k .since))
@@ -25,15 +24,12 @@ reached : (es : List Event) (s : Settings) → axisOf es .active ≡ Set s → O
 reached es s e = rw (matches es .phase) (on-route (known es) s (sym (matches es .active) ∙ e))
 
 pub leg-tells-route : LegTellsRoute
-leg-tells-route es fs h e = go (axisOf es .active) refl (axisOf fs .active) refl h
-  where
-    go : (x : Active) → axisOf es .active ≡ x → (y : Active) → axisOf fs .active ≡ y → EqualInForce x y
-        → runningFrom (axisOf es .motion .phase) ≡ runningFrom (axisOf fs .motion .phase)
-    go Nothing p y q h = absurd h
-    go (Set s) p Nothing q h = absurd h
-    go (Set s) p (Set r) q h = tells-route (r .method) (rw (h .method) at (reached es s p)) (reached fs r q) e
+leg-tells-route es fs s r p q m e = tells-route (r .method) (rw m at (reached es s p)) (reached fs r q) e
 
 pub reached-alike : ReachedAlike
-reached-alike before earlier es fs h =
-    answered-alike (axisOf before) (axisOf earlier) es fs
-    (record { settings = h .settings; drive = h .drive; homed = h .homed; error = h .error; leg = leg-tells-route before earlier (h .settings) (h .leg) })
+reached-alike es fs h = go (axisOf es .active) refl (axisOf fs .active) refl (h .others .settings)
+  where
+    go : (x : Active) → axisOf es .active ≡ x → (y : Active) → axisOf fs .active ≡ y → EqualInForce x y → Alike (axisOf es) (axisOf fs)
+    go Nothing p y q k = absurd k
+    go (Set s) p Nothing q k = absurd k
+    go (Set s) p (Set r) q k = record { others = h .others; leg = leg-tells-route es fs s r p q (k .method) (h .leg) }

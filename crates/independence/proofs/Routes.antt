@@ -45,7 +45,7 @@ further : (n : ℕ) (xs ys : List ℕ) → has n ys ≡ true → has n (xs ++ ys
 further n [] ys h = h
 further n (x ∷ xs) ys h = or-right (eqb n x) (has n (xs ++ ys)) (further n xs ys h)
 
--- a route and what is left of it after each of its legs, of which there are three at most
+-- a route and what is left of it after its first and its second leg; none has more than three
 abbrev lefts : ℕ → List ℕ
 lefts route = route ∷ route / 256 ∷ route / 256 / 256 ∷ []
 
@@ -74,11 +74,11 @@ goes-on ns n = eqb (n / 256) 0 || has (n / 256) ns
 abbrev tells : ℕ → ℕ → Bool
 tells n m = not (eqb (legNumber (legFrom n)) (legNumber (legFrom m))) || eqb n m
 
-pub record Sound (m : ℕ) : Type 0 where
+pub record LegsTell (m : ℕ) : Type 0 where
   pub closed : every (goes-on (routes m)) (routes m) ≡ true
   pub told : every (λ n. every (tells n) (routes m)) (routes m) ≡ true
 
-computed : (m : ℕ) (r : Row) → rowOf m ≡ some r → Sound m
+computed : (m : ℕ) (r : Row) → rowOf m ≡ some r → LegsTell m
 unfolding rowOf mainRoute turnRoute skipRoute
 computed m r e =
     record {
@@ -99,9 +99,9 @@ pub data OnRoute (m : ℕ) : Phase → Type 0 where
   idle : OnRoute m Idle
   homed : OnRoute m Homed
   failed : OnRoute m Failed
-  runs : {n : ℕ} → Sound m → has n (routes m) ≡ true → OnRoute m (Running n)
+  runs : {n : ℕ} → LegsTell m → has n (routes m) ≡ true → OnRoute m (Running n)
 
-module _ (m : ℕ) (k : Sound m) where
+module _ (m : ℕ) (k : LegsTell m) where
   enters : (n : ℕ) → (eqb n 0 || has n (routes m)) ≡ true → OnRoute m (entered n)
   enters n h = go (eqb n 0) h
     where
@@ -146,7 +146,7 @@ starts m s = go (rowOf m) refl
 
 -- ---- so the leg tells the route
 
-one-route : (m : ℕ) → Sound m → (n l : ℕ) → has n (routes m) ≡ true → has l (routes m) ≡ true → legFrom n ≡ legFrom l → n ≡ l
+one-route : (m : ℕ) → LegsTell m → (n l : ℕ) → has n (routes m) ≡ true → has l (routes m) ≡ true → legFrom n ≡ legFrom l → n ≡ l
 one-route m k n l h g e =
     let t = of-every (tells n) (routes m) (of-every (λ x. every (tells x) (routes m)) (routes m) (k .told) n h) l g in
     eqb-true n l (rw (ap legNumber e, eq-eqb (legNumber (legFrom l)) (legNumber (legFrom l)) refl) at t)

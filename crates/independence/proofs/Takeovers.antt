@@ -1,4 +1,4 @@
--- What a word that takes over leaves, and any other: by the ways in which a word is read. Of the words that take nothing over no tick tells.
+-- What each word leaves, by how it was read. A word that takes nothing over changes at most what is pending, which no tick sees.
 -- Assumes nothing.
 use Prim.Native.Nat.{ℕ}
 use mathlib.Core.Path.{_≡_, refl, sym, ap, _∙_}
@@ -6,9 +6,7 @@ use mathlib.Core.Bool.{Bool, true, false, _&&_, false≢true}
 use mathlib.Core.List.{List, [], _∷_, map}
 use native.Mathlib.Omega.{arith}
 use borrow.Author.Tests.{eqb-true, eq-eqb}
-use lib.Dec.{eqb}
 use Rattle.settings.specs.declared.Settings.{Settings}
-use Rattle.settings.specs.Refusal.{verdictNumber}
 use Rattle.settings.proofs.Numbered.{not-zero}
 use Rattle.settings.proofs.Within.{both}
 use Rattle.layouts.proofs.Sizes.{size-below}
@@ -27,7 +25,7 @@ use Rattle.rules.specs.Tick.{tickOf}
 use Rattle.demands.specs.Events.{word, tick}
 use Rattle.demands.specs.Whole.{afterTakeover}
 use Rattle.demands.proofs.Whole.{pending-unseen-from}
-use Rattle.independence.specs.Alike.{answersIn, answersFrom, ticksIn}
+use Rattle.independence.specs.Alike.{answersAmong, answersFrom, ticksIn, takenOverBy}
 use Rattle.independence.specs.Takeovers.{TakeoverLeaves, OtherLeaves, WordsUnseen}
 
 module _ (a : Axis) (w : ℕ) where
@@ -43,13 +41,10 @@ module _ (a : Axis) (w : ℕ) where
   settings = settingsOf (a .pending .values)
 
   -- both laws, of what comes of the word
-  abbrev takes : Worded → Bool
-  takes x = isEnd w && eqb (verdictNumber (x .verdict)) 0
-
   abbrev Leaves : Worded → Type 0
   Leaves x =
-      (takes x ≡ false → x .axis ≡ withPending a (x .axis .pending))
-      × (takes x ≡ true → x .axis ≡ afterTakeover settings (withPending a emptyPending))
+      (takenOverBy w (x .verdict) ≡ false → x .axis ≡ withPending a (x .axis .pending))
+      × (takenOverBy w (x .verdict) ≡ true → x .axis ≡ afterTakeover settings (withPending a emptyPending))
 
   -- an end word that completes settings takes them over exactly where the drive is not live
   closing : (b : Bool) → liveOf (a .motion .state) ≡ b → isEnd w ≡ true → Leaves (by (complete settings))
@@ -77,5 +72,5 @@ words-unseen a [] n = refl
 words-unseen a (word w ∷ es) n =
     words-unseen (wordOf a w .axis) es (n .1)
     ∙ ap (λ (c : Axis). answersFrom c (map tick (ticksIn es))) (other-leaves a w (n .0))
-    ∙ ap answersIn (pending-unseen-from a (wordOf a w .axis .pending) (ticksIn es))
+    ∙ ap answersAmong (pending-unseen-from a (wordOf a w .axis .pending) (ticksIn es))
 words-unseen a (tick t ∷ es) n = ap (λ (answers : List Answer). tickOf a t .answer ∷ answers) (words-unseen (tickOf a t .axis) es n)

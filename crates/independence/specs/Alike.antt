@@ -1,7 +1,7 @@
 -- 02, (vi), "What homing can't know": "Gear, offset and stops change between rehearsals; homing itself must not."
 -- An axis is any axis here, whether words and ticks lead to it or not, and its settings are any, acceptable or not. Gear, offset and stops are called
--- travel: what a target meets on its way to a count. Stops are position limits.
--- The theorems are `ticks-alike`, in `proofs/Tick.antt`, and `answered-alike`, in `proofs/Alike.antt`.
+-- units: they make a count of a target's user units. Stops are position limits.
+-- The theorems are `ticks-alike` and `answered-alike`, in `proofs/Alike.antt`.
 -- Assumes nothing.
 use Prim.Native.Nat.{ℕ}
 use mathlib.Core.Path.{_≡_}
@@ -10,6 +10,7 @@ use mathlib.Core.List.{List, [], _∷_, map}
 use mathlib.Core.Option.{Option, none, some}
 use lib.Dec.{eqb}
 use Rattle.settings.specs.declared.Settings.{Settings}
+use Rattle.settings.specs.declared.Verdict.{Verdict}
 use Rattle.settings.specs.Refusal.{verdictNumber}
 use Rattle.reader.specs.Cases.{isEnd}
 use Rattle.homing.specs.Phase.{Phase, Idle, Running, Homed, Failed, homedIn, failedIn}
@@ -26,7 +27,7 @@ use Rattle.demands.specs.Events.{Event, word, tick}
 use Rattle.demands.specs.Replies.{Reply, said, answered, repliesFrom}
 
 -- "whose sheets differ only in gear, offset and stops": equal in every field but numerator, denominator, offset, lower and upper
-pub record EqualButTravel (s r : Settings) : Type 0 where
+pub record EqualButUnits (s r : Settings) : Type 0 where
   pub method : s .method ≡ r .method
   pub fast : s .fast ≡ r .fast
   pub slow : s .slow ≡ r .slow
@@ -39,11 +40,11 @@ pub record EqualButTravel (s r : Settings) : Type 0 where
   pub rated : s .rated ≡ r .rated
   pub homing : s .homing ≡ r .homing
 
--- both axes have settings in force, and these are equal but for travel
+-- both axes have settings in force, and these are equal but for units
 abbrev pub EqualInForce : Active → Active → Type 0
 EqualInForce Nothing b = ⊥
 EqualInForce (Set s) Nothing = ⊥
-EqualInForce (Set s) (Set r) = EqualButTravel s r
+EqualInForce (Set s) (Set r) = EqualButUnits s r
 
 -- "equal drive state, shown mode, alarm number, remembered inputs": what a takeover leaves as it was (01)
 pub record EqualDrive (m n : Motion) : Type 0 where
@@ -54,20 +55,24 @@ pub record EqualDrive (m n : Motion) : Type 0 where
   pub switches : m .switches ≡ n .switches
   pub position : m .position ≡ n .position
 
--- the number of the route from the running leg on, which tells that leg, those after it and whether a limit turns it (`legs/specs/Numbers.antt`); none
--- where no leg runs. On axes of every kind the leg alone is not enough; on those that words and ticks lead to it is: `Leg.antt`
+-- the running leg by the number that homing holds, which tells that leg, those after it and whether a limit turns it (`legs/specs/Numbers.antt`); none
+-- where no leg runs. For all axes the leg alone is not enough; for those that words and ticks lead to it is: `Leg.antt`
 abbrev pub runningFrom : Phase → Option ℕ
 runningFrom Idle = none
 runningFrom (Running route) = some route
 runningFrom Homed = none
 runningFrom Failed = none
 
--- and "homed, homing error and running leg"; of home and of what is pending nothing is asked
-pub record Alike (a b : Axis) : Type 0 where
+-- "homed, homing error" are equal too: all that is named, but for the running leg
+pub record EqualButLeg (a b : Axis) : Type 0 where
   pub settings : EqualInForce (a .active) (b .active)
   pub drive : EqualDrive (a .motion) (b .motion)
   pub homed : homedIn (a .motion .phase) ≡ homedIn (b .motion .phase)
   pub error : failedIn (a .motion .phase) ≡ failedIn (b .motion .phase)
+
+-- "and running leg". Of home and of what is pending nothing is asked
+pub record Alike (a b : Axis) : Type 0 where
+  pub others : EqualButLeg a b
   pub leg : runningFrom (a .motion .phase) ≡ runningFrom (b .motion .phase)
 
 -- "ticks without position command"
@@ -76,13 +81,13 @@ NoPosition [] = Unit {0}
 NoPosition (t ∷ ts) = (isMode (modeOf (t .command)) Position ≡ false) × NoPosition ts
 
 -- the answers to the ticks of a list, every field; a word's verdict is no answer
-abbrev pub answersIn : List Reply → List Answer
-answersIn [] = []
-answersIn (said v ∷ rs) = answersIn rs
-answersIn (answered a ∷ rs) = a ∷ answersIn rs
+abbrev pub answersAmong : List Reply → List Answer
+answersAmong [] = []
+answersAmong (said v ∷ rs) = answersAmong rs
+answersAmong (answered a ∷ rs) = a ∷ answersAmong rs
 
 abbrev pub answersFrom : Axis → List Event → List Answer
-answersFrom a es = answersIn (repliesFrom a es)
+answersFrom a es = answersAmong (repliesFrom a es)
 
 -- the request's sentence, of ticks alone
 abbrev pub TicksAlike : Type 0
@@ -94,9 +99,12 @@ ticksIn [] = []
 ticksIn (word w ∷ es) = ticksIn es
 ticksIn (tick t ∷ es) = t ∷ ticksIn es
 
--- a word takes settings over where it is an end word, and answered 0 (`Takeovers.antt`)
+-- a word takes settings over if it is an end word and is answered 0 (`Takeovers.antt`)
+abbrev pub takenOverBy : ℕ → Verdict → Bool
+takenOverBy w v = isEnd w && eqb (verdictNumber v) 0
+
 abbrev pub isTakeover : Axis → ℕ → Bool
-isTakeover a w = isEnd w && eqb (verdictNumber (wordOf a w .verdict)) 0
+isTakeover a w = takenOverBy w (wordOf a w .verdict)
 
 -- "or takeover": no word of the list takes over, each coming to the axis as the events before it left it
 abbrev pub NoTakeover : Axis → List Event → Type 0

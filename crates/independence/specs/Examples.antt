@@ -1,5 +1,5 @@
 -- 02, (vi): closed axes. Pairs that meet `Alike` home on a route and are answered alike. And for each equality that `Alike` asks for, for settings in
--- force, for position commands and for takeover: two axes that meet all else, and are answered otherwise. The checker evaluates both tables.
+-- force, for position commands and for takeover: axes and lists that meet all else, and are answered otherwise. The checker evaluates both tables.
 -- Assumes nothing.
 use Prim.Native.Nat.{ℕ, _+_, _-_, _*_, _%_, _^_}
 use mathlib.Core.Path.{_≡_, refl}
@@ -71,16 +71,20 @@ sameAnswers [] (y ∷ ys) = false
 sameAnswers (x ∷ xs) [] = false
 sameAnswers (x ∷ xs) (y ∷ ys) = sameAnswer x y && sameAnswers xs ys
 
--- S with other data of a kind that is one number or one set of limits (1, 2, 3, 5, 6, 9, 10, 11, 13), and with another option or homing torque
-abbrev S-by : List (ℕ × ℕ) → ℕ → ℕ → Settings
-S-by changes option homing = settingsFrom (pos 0) (minus 1000) (pos 1000) option homing (data-with changes)
+-- S with other units: offset, lower and upper stop, and a gear
+abbrev with-units : ℤ → ℤ → ℤ → ℕ → ℕ → Settings
+with-units offset lower upper numerator denominator = settingsFrom offset lower upper 2 1000 (data-with ((5, numerator) ∷ (6, denominator) ∷ []))
 
+-- S with other data of a kind that is one number or one set of limits (1, 2, 3, 9, 10, 11, 13)
 abbrev S-but : ℕ → ℕ → Settings
-S-but kind x = S-by ((kind, x) ∷ []) 2 1000
+S-but kind x = settingsFrom (pos 0) (minus 1000) (pos 1000) 2 1000 (data-with ((kind, x) ∷ []))
 
--- S with another travel: offset, lower and upper stop, and a gear
-abbrev travelling : ℤ → ℤ → ℤ → ℕ → ℕ → Settings
-travelling offset lower upper numerator denominator = settingsFrom offset lower upper 2 1000 (data-with ((5, numerator) ∷ (6, denominator) ∷ []))
+-- with another quick stop option; with another homing torque, as layout 3 has it
+abbrev with-option : ℕ → Settings
+with-option option = settingsFrom (pos 0) (minus 1000) (pos 1000) option 1000 (data-with [])
+
+abbrev with-homing-torque : ℕ → Settings
+with-homing-torque homing = settingsFrom (pos 0) (minus 1000) (pos 1000) 2 homing (data-with [])
 
 -- enabled in mode 6 at 100, with 000F and no switch remembered
 abbrev standing : Motion
@@ -111,57 +115,70 @@ abbrev one : Motion → Axis
 one motion = under settings-S motion
 
 abbrev other : Motion → Axis
-other motion = axis (Set (travelling (minus 40) (minus 3000) (pos 250) 7 5)) (record { count = 2; values = 1 ∷ 35 ∷ replicate 13 0 }) (homeAt motion (pos 777))
+other motion = axis (Set (with-units (minus 40) (minus 3000) (pos 250) 7 5)) (record { count = 2; values = 1 ∷ 35 ∷ replicate 13 0 }) (homeAt motion (pos 777))
 
 -- settings that no sheet has: stops crossed, an offset of 2 ^ 40, a gear of 0 over 0
 abbrev odd : Motion → Axis
-odd motion = under (travelling (pos (2 ^ 40)) (pos 1) (pos 0) 0 0) (homeAt motion (minus 1))
+odd motion = under (with-units (pos (2 ^ 40)) (pos 1) (pos 0) 0 0) (homeAt motion (minus 1))
 
--- whatever the motion is, travel, home and what is pending leave unchanged all that the theorem asks for
-any-travel : (m : Motion) (offset lower upper : ℤ) (numerator denominator : ℕ) (pending : Pending) (home : ℤ)
-    → Alike (one m) (axis (Set (travelling offset lower upper numerator denominator)) pending (homeAt m home))
+-- whatever the motion is, units, home and what is pending leave unchanged all that the theorem asks for
+any-units : (m : Motion) (offset lower upper : ℤ) (numerator denominator : ℕ) (pending : Pending) (home : ℤ)
+    → Alike (one m) (axis (Set (with-units offset lower upper numerator denominator)) pending (homeAt m home))
 unfolding words-S settings-S
-any-travel m offset lower upper numerator denominator pending home =
+any-units m offset lower upper numerator denominator pending home =
     record {
-      settings =
+      others =
           record {
-            method = refl;
-            fast = refl;
-            slow = refl;
-            maximum = refl;
-            positive1 = refl;
-            negative1 = refl;
-            positive2 = refl;
-            negative2 = refl;
-            option = refl;
-            rated = refl;
-            homing = refl;
+            settings =
+                record {
+                  method = refl;
+                  fast = refl;
+                  slow = refl;
+                  maximum = refl;
+                  positive1 = refl;
+                  negative1 = refl;
+                  positive2 = refl;
+                  negative2 = refl;
+                  option = refl;
+                  rated = refl;
+                  homing = refl;
+                };
+            drive =
+                record {
+                  state = refl;
+                  mode = refl;
+                  alarm = refl;
+                  control = refl;
+                  switches = refl;
+                  position = refl;
+                };
+            homed = refl;
+            error = refl;
           };
-      drive =
-          record {
-            state = refl;
-            mode = refl;
-            alarm = refl;
-            control = refl;
-            switches = refl;
-            position = refl;
-          };
-      homed = refl;
-      error = refl;
       leg = refl;
     }
 
-meet : (m : Motion) → Alike (one m) (other m) × Alike (one m) (odd m)
-meet m = (any-travel m _ _ _ _ _ _ _, any-travel m _ _ _ _ _ _ _)
+pairs-alike : (m : Motion) → Alike (one m) (other m) × Alike (one m) (odd m)
+pairs-alike m = (any-units m _ _ _ _ _ _ _, any-units m _ _ _ _ _ _ _)
 
--- the words of a sheet with another gear, offset and upper stop
+-- the words of the settings of `other`
 abbrev words-other : List ℕ
-words-other = S-with ((4, 40) ∷ (5, 7) ∷ (6, 5) ∷ (8, 250) ∷ [])
+words-other = S-with ((4, 2 ^ 28 - 40) ∷ (5, 7) ∷ (6, 5) ∷ (7, 2 ^ 28 - 3000) ∷ (8, 250) ∷ [])
 
 -- a word that is due in `other`, one that is not, and in the route a whole sheet whose end word comes while the axis is live
 abbrev with-words : List Event
 with-words = word 0x20004E20 ∷ word 0x60000002 ∷ take 2 route ++ S ++ drop 2 route
 
+-- after a tick, a target that is followed, and then homing anew
+abbrev target-then-route : List Event
+target-then-route = ask Rest ∷ target (pos 500) ∷ route
+
+-- a list but for the entry at a place, from 0 on
+abbrev without : ℕ → List Answer → List Answer
+without n xs = take n xs ++ drop (n + 1) xs
+
+-- where answers are compared here, a theorem says that they are equal: `AnsweredAlike`; for sheets taken over `RehearsalsAlike`; with a position command
+-- `WithPositions`
 unfoldable pub alike : List Bool
 alike =
     -- homing runs its route, leg by leg, and is homed
@@ -176,6 +193,11 @@ alike =
     -- with words on one side, stored, refused with 1, and with 7, and none on the other
     ∷ sameWords (map number (repliesFrom (other standing) with-words)) (0 ∷ 1 ∷ replicate 2 0 ++ replicate 14 0 ++ 7 ∷ replicate 3 0)
     ∷ sameAnswers (answersFrom (one standing) route) (answersFrom (other standing) with-words)
+    -- with the same words on both, whose first is stored in `other` and refused in `one`
+    ∷ sameWords (map number (repliesFrom (one standing) with-words)) (1 ∷ 1 ∷ replicate 2 0 ++ replicate 14 0 ++ 7 ∷ replicate 3 0)
+    ∷ sameAnswers (answersFrom (one standing) with-words) (answersFrom (other standing) with-words)
+    -- and a position command: the tick before it and the ticks after it, in which the axis homes anew
+    ∷ sameAnswers (without 1 (answersFrom (one homed) target-then-route)) (without 1 (answersFrom (other homed) target-then-route))
     ∷ []
 
 -- ---- each thing that the theorem asks for is used
@@ -200,17 +222,21 @@ disabled = driven homed SwitchOnDisabled mode.Homing 0
 
 unfoldable pub differing : List Bool
 differing =
+    -- in that list, the answer to the position command
+    differ (answersFrom (one homed) target-then-route) (answersFrom (other homed) target-then-route)
     -- a position command: of axes that are alike, after homing; with another home; with another numerator, denominator, offset, lower and upper stop
-    differ (answersFrom (one standing) rehearsed) (answersFrom (other standing) rehearsed)
+    ∷ differ (answersFrom (one standing) rehearsed) (answersFrom (other standing) rehearsed)
     ∷ motions-differ homed (homeAt homed (pos 1)) (target (pos 0) ∷ [])
-    ∷ settings-differ (travelling (pos 0) (minus 1000) (pos 1000) 7 2) homed (target (pos 500) ∷ [])
-    ∷ settings-differ (travelling (pos 0) (minus 1000) (pos 1000) 3 5) homed (target (pos 500) ∷ [])
-    ∷ settings-differ (travelling (pos 1) (minus 1000) (pos 1000) 3 2) homed (target (pos 500) ∷ [])
-    ∷ settings-differ (travelling (pos 0) (minus 999) (pos 1000) 3 2) homed (target (minus 1000) ∷ [])
-    ∷ settings-differ (travelling (pos 0) (minus 1000) (pos 999) 3 2) homed (target (pos 1000) ∷ [])
-    -- a gear that differs, and a position command after homing; so too with sheets taken over
-    ∷ settings-differ (travelling (pos 0) (minus 1000) (pos 1000) 7 5) standing (route ++ target (pos 500) ∷ [])
-    ∷ differ (answersFrom freshAxis (enabled ++ rehearsed)) (answersFrom freshAxis (map word words-other ++ enabling ++ rehearsed))
+    ∷ settings-differ (with-units (pos 0) (minus 1000) (pos 1000) 7 2) homed (target (pos 500) ∷ [])
+    ∷ settings-differ (with-units (pos 0) (minus 1000) (pos 1000) 3 5) homed (target (pos 500) ∷ [])
+    ∷ settings-differ (with-units (pos 1) (minus 1000) (pos 1000) 3 2) homed (target (pos 500) ∷ [])
+    ∷ settings-differ (with-units (pos 0) (minus 999) (pos 1000) 3 2) homed (target (minus 1000) ∷ [])
+    ∷ settings-differ (with-units (pos 0) (minus 1000) (pos 999) 3 2) homed (target (pos 1000) ∷ [])
+    -- a gear that differs, and a position command after homing; and after homing with sheets taken over that differ in all units
+    ∷ settings-differ (with-units (pos 0) (minus 1000) (pos 1000) 7 5) standing (route ++ target (pos 500) ∷ [])
+    ∷ differ
+    (answersFrom freshAxis (enabled ++ route ++ target (pos 500) ∷ []))
+    (answersFrom freshAxis (map word words-other ++ enabling ++ route ++ target (pos 500) ∷ []))
     -- another method, fast or slow speed
     ∷ settings-differ (S-but 1 27) standing route
     ∷ settings-differ (S-but 2 19999) standing route
@@ -222,9 +248,9 @@ differing =
     ∷ settings-differ (S-but 11 (300 * 2 ^ 14 + 299)) standing (ask-in Set2 (Torque (pos 900)) ∷ [])
     ∷ settings-differ (S-but 11 (299 * 2 ^ 14 + 300)) standing (ask-in Set2 (Torque (minus 900)) ∷ [])
     -- another quick stop option, rated torque, homing torque
-    ∷ settings-differ (S-by [] 6 1000) standing (moving-tick 0x0002 Rest ∷ still-tick 0x0002 Rest ∷ [])
+    ∷ settings-differ (with-option 6) standing (moving-tick 0x0002 Rest ∷ still-tick 0x0002 Rest ∷ [])
     ∷ settings-differ (S-but 13 3000) standing (ask (hybrid 0x4000_0000 0 0x3f00_0000 0 0) ∷ [])
-    ∷ settings-differ (S-by [] 2 250) standing (ask (Homing (pos 900)) ∷ [])
+    ∷ settings-differ (with-homing-torque 250) standing (ask (Homing (pos 900)) ∷ [])
     -- no settings in force
     ∷ differ (answersFrom (one standing) (ask Rest ∷ [])) (answersFrom (axis Nothing emptyPending standing) (ask Rest ∷ []))
     -- another drive state, shown mode, alarm number

@@ -1,4 +1,5 @@
 pub mod Alike
+pub mod Positions
 pub mod Takeovers
 pub mod Leg
 pub mod Rehearsals

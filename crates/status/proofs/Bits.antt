@@ -1,4 +1,4 @@
--- What single bits of the statusword say: 8 is homed, and in homing mode 12 is homed too.
+-- What single bits of the statusword say: 8 is homed, 11 is that a limit is active, and in homing mode 12 is homed too.
 -- Assumes nothing.
 use Prim.Native.Nat.{ℕ, _+_, _*_, _/_, _%_, _^_, _<_}
 use mathlib.Core.Path.{_≡_, refl, _∙_}
@@ -47,6 +47,9 @@ module _ (s a b c d e : ℕ) where
   bit-8 : s < 1024 → s / 2 ^ 8 % 2 ≡ 0 → a < 2 → word / 2 ^ 8 % 2 ≡ a
   bit-8 h k l = omega arith
 
+  bit-11 : s < 1024 → s / 2 ^ 8 % 2 ≡ 0 → a < 2 → b < 2 → c < 2 → word / 2 ^ 11 % 2 ≡ c
+  bit-11 h k la lb lc = omega arith
+
   bit-12 : s < 1024 → s / 2 ^ 8 % 2 ≡ 0 → a < 2 → b < 2 → c < 2 → d < 2 → word / 2 ^ 12 % 2 ≡ d
   bit-12 h k la lb lc ld = omega arith
 
@@ -74,6 +77,11 @@ module _ (s : State) (mode : Mode) (f : Flags) where
   bit-8-homed =
       let l = status-low s in
       rw in-parts (shown (f .homed) parts 8 (bit-8 _ _ _ _ _ _ (l .0) (l .1) (one (f .homed))))
+
+  pub bit-11-limited : bitOf (statuswordOf s mode f) 11 ≡ f .limited
+  bit-11-limited =
+      let l = status-low s in
+      rw in-parts (shown (f .limited) parts 11 (bit-11 _ _ _ _ _ _ (l .0) (l .1) (one (f .homed)) (one (reachedOf mode f)) (one (f .limited))))
 
   bit-12-shown : bitOf (statuswordOf s mode f) 12 ≡ attainedOrFollowing mode f
   bit-12-shown =
