@@ -4,6 +4,7 @@ mod gears;
 mod homing_torque;
 mod layouts;
 mod needed;
+mod rehearsals;
 mod settings;
 mod text;
 mod ticks;
@@ -27,6 +28,7 @@ pub struct Tally {
     /// The layout of the run that the latest start word left halfway.
     left: Option<u32>,
     stale: Stale,
+    rehearsals: rehearsals::Rehearsals,
     counts: BTreeMap<String, u64>,
 }
 
@@ -59,6 +61,7 @@ impl Default for Tally {
             taken_over: false,
             left: None,
             stale: Stale::default(),
+            rehearsals: Default::default(),
             counts,
         }
     }
@@ -88,6 +91,7 @@ impl Tally {
                 self.taken_over = false;
                 self.left = None;
                 self.stale = Stale::default();
+                self.rehearsals.fresh();
             }
             Ok(Line::Word(word)) => self.saw_word(word),
             Ok(Line::Tick(tick)) => self.saw_tick(&tick),

@@ -84,8 +84,9 @@ phase-with Failed = refl
 
 equal-but-home : (a b : Axis) → Alike a b → b .motion ≡ homeAt (a .motion) (b .motion .home)
 equal-but-home a b h =
-    let d = h .others .drive in
-    let p : a .motion .phase ≡ b .motion .phase = sym (phase-with (a .motion .phase)) ∙ rw (h .others .homed, h .others .error, h .leg) (phase-with (b .motion .phase)) in
+    let o = h .others in
+    let d = o .drive in
+    let p : a .motion .phase ≡ b .motion .phase = sym (phase-with (a .motion .phase)) ∙ rw (o .homed, o .error, h .leg) (phase-with (b .motion .phase)) in
     rw (d .state, d .mode, d .alarm, p, d .control, d .switches, d .position)
 
 -- ---- one tick

@@ -1,7 +1,7 @@
 -- 02, (vi), "running leg". A leg is direction, speed and event (01). On axes that no words and ticks lead to equal legs may be followed by different
--- ones, or a limit may turn one and not the other, and then answers may differ (`Examples.antt`); so `Alike` asks for the rest of the route and the turn too. An
--- axis that words and ticks lead to has its leg in a route of the method in force, and there the leg alone tells all that: of such axes the request's
--- sentence holds to the letter. Proved in `proofs/Leg.antt`.
+-- ones, or a limit may turn one and not the other, and then answers may differ (`Examples.antt`); so `Alike` asks for the rest of the route and the
+-- turn too. An axis that words and ticks lead to has its leg in a route of the method in force, and there the leg alone tells all that: of such axes
+-- the request's sentence holds to the letter. Proved in `proofs/Leg.antt`.
 -- Assumes nothing.
 use mathlib.Core.Path.{_≡_}
 use mathlib.Core.List.{List}

@@ -41,7 +41,7 @@ fn starts_on(way: Way) -> bool {
 }
 
 /// The switches of a start tick that allows this way, with these limits on beside.
-fn start_on(method: u32, way: Way, limits: impl IntoIterator<Item = Switch>) -> Switches {
+pub(super) fn start_on(method: u32, way: Way, limits: impl IntoIterator<Item = Switch>) -> Switches {
     let mut switches = Switches::default();
     for limit in limits {
         switches.turn(limit, true);
@@ -112,7 +112,7 @@ impl<W: Write> Script<W> {
     }
 
     /// Enabled, homing matched, bit 4 clear; then it is set with these switches.
-    fn start_with(&mut self, switches: Switches) {
+    pub(super) fn start_with(&mut self, switches: Switches) {
         self.now.command = "homing 100".to_string();
         self.reach(OperationEnabled);
         self.tick_with(0x000F, "homing 100", true);
@@ -174,7 +174,7 @@ impl<W: Write> Script<W> {
         }
     }
 
-    fn halted_tick(&mut self) {
+    pub(super) fn halted_tick(&mut self) {
         self.now.control = 0x011F;
         self.tick();
         self.now.control = 0x001F;
@@ -221,7 +221,7 @@ impl<W: Write> Script<W> {
 
     /// Noise, then the leg's event; at times the limit or Z rises in the same tick, which nobody looks at, or the awaited limit
     /// came on in halt.
-    fn leg(&mut self, leg: Leg) {
+    pub(super) fn leg(&mut self, leg: Leg) {
         for _ in 0..self.random.between(0, 2) {
             self.noise(leg);
         }
@@ -360,7 +360,7 @@ impl<W: Write> Script<W> {
     }
 
     /// The leg begins with its limit on, and it stays on.
-    fn hold(&mut self, method: u32, way: Way, place: usize) {
+    pub(super) fn hold(&mut self, method: u32, way: Way, place: usize) {
         self.begin_on_limit(method, way, place);
         if self.random.once_in(4) {
             self.halted_tick();

@@ -4,6 +4,7 @@ mod gears;
 mod homing;
 mod homing_torque;
 mod layouts;
+mod rehearsals;
 mod sheets;
 mod states;
 mod targets;
@@ -62,6 +63,8 @@ pub struct Script<W: Write> {
     /// Whether a tick is changed a little now and then, which often spoils what its scene is after.
     mutating: bool,
     now: Surroundings,
+    /// The rehearsal that is being played for the first time.
+    rehearsal: Option<rehearsals::Rehearsal>,
 }
 
 /// The scenes of a round.
@@ -94,6 +97,7 @@ enum Scene {
     HomingCaps,
     HomingTorqueWords,
     HomingTorqueLines,
+    Rehearsals,
     TakeOverAnywhere,
     Unreadables,
     Wander,
@@ -125,6 +129,7 @@ fn scenes() -> Vec<Scene> {
         Scene::HomingCaps,
         Scene::HomingTorqueWords,
         Scene::HomingTorqueLines,
+        Scene::Rehearsals,
         Scene::TakeOverAnywhere,
         Scene::Unreadables,
         Scene::Wander,
@@ -156,6 +161,7 @@ impl<W: Write> Script<W> {
                 set: 1,
                 alarm: 0,
             },
+            rehearsal: None,
         }
     }
 
@@ -212,6 +218,7 @@ impl<W: Write> Script<W> {
             Scene::HomingCaps => self.homing_caps(),
             Scene::HomingTorqueWords => self.homing_torque_words(),
             Scene::HomingTorqueLines => self.homing_torque_lines(),
+            Scene::Rehearsals => self.rehearsals(),
             Scene::TakeOverAnywhere => self.take_over_anywhere(),
             Scene::Unreadables => self.unreadables(),
             Scene::Wander => self.wander(),
@@ -243,7 +250,9 @@ impl<W: Write> Script<W> {
                 _ => tick.still = !tick.still,
             }
         }
-        self.line(&tick.line());
+        let line = tick.line();
+        self.rehearsed(&line);
+        self.line(&line);
     }
 
     fn tick_with(&mut self, control: u16, command: &str, still: bool) {

@@ -4,7 +4,7 @@ use super::gears::{BY_BOTH, EDGES as GEAR_EDGES, ON_EDGE, ON_LONG_RAILS};
 use super::refused;
 use super::settings::{can_hold, EDGES, FIELDS, INNER_METHODS};
 use super::text::{EXPECTED, FLOAT_SHAPES};
-use super::{homing_torque, layouts};
+use super::{homing_torque, layouts, rehearsals};
 use crate::control_word::DriveCommand::*;
 use crate::drive_state::DriveState::{self, *};
 use crate::homing::failing_legs;
@@ -171,6 +171,7 @@ pub(super) fn names() -> Vec<String> {
     names.extend(gears());
     names.extend(layouts::names());
     names.extend(homing_torque::names());
+    names.extend(rehearsals::names());
     names
 }
 

@@ -89,6 +89,7 @@ impl Tally {
             self.saw_if(kind == was_due, &format!("word: due before refusal {}, out of turn after it", refusal.number()));
         }
         self.refused = heard.err().filter(|_| due != sheet::START).map(|refusal| (refusal, due));
+        self.rehearsal_word(heard);
         self.saw_run(&run, word, heard);
         self.saw_if(kind == sheet::END && due != sheet::END, "word: end too early");
         self.saw_if(heard.is_ok() && kind == sheet::START && due != sheet::START, "word: start halfway");
@@ -107,6 +108,7 @@ impl Tally {
             self.saw_if(whole > u64::from(sheet::DATA), "takeover with a sum beyond 28 bits");
             self.saw_reach(&sheet);
             self.saw_layout(&sheet, earlier.as_ref());
+            self.rehearsal_begins(&sheet);
         }
     }
 

@@ -74,6 +74,7 @@ impl Tally {
         self.saw_target(tick, &sheet, &answer);
         self.saw_torque(tick, &sheet, &answer, &before);
         self.saw_remembered(tick, &before);
+        self.rehearsal_tick(tick, &answer, before.mode);
         self.switches = tick.switches;
         self.stretch = self.stretch_after(tick, &before);
         self.taken_over = false;
