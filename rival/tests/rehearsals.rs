@@ -12,11 +12,11 @@ use rival::hybrid::Hybrid;
 use rival::lines::{next_text, read, Line};
 use rival::program::Program;
 use rival::random::Random;
-use rival::script::Script;
+use rival::script::{is_acceptable, sheet_s, Script};
 use rival::sheet::{LimitSet, Sheet, LONGEST};
 use rival::tally::Tally;
 use rival::tick::{Answer, Switches, Tick};
-use rival::writer::{self, Settings};
+use rival::writer::Settings;
 
 type Field = fn(&mut Settings) -> &mut i64;
 
@@ -174,32 +174,6 @@ fn any_unknown(random: &mut Random, name: &str) -> i64 {
     }
     let width = random.pick(&[50, 100_000, 1 << 27, (1 << 31) - 1]);
     random.between(-width, width)
-}
-
-/// Sheet S of the paper.
-fn sheet_s() -> Settings {
-    Settings {
-        method: 23,
-        fast: 20000,
-        slow: 1000,
-        offset: 0,
-        numerator: 3,
-        denominator: 2,
-        lower_stop: -1000,
-        upper_stop: 1000,
-        maximum_torque: 1000,
-        positive_1: 800,
-        negative_1: 600,
-        positive_2: 300,
-        negative_2: 300,
-        quick_stop_option: 2,
-        rated_torque: 2000,
-        homing_torque: 1000,
-    }
-}
-
-fn is_acceptable(settings: &Settings) -> bool {
-    writer::write(3, settings, &mut [0; LONGEST]).is_ok()
 }
 
 /// Settings that differ in one of the five, or in any of them.

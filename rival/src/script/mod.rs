@@ -12,6 +12,7 @@ mod weird;
 
 use std::io::{self, Write};
 
+pub use self::sheets::{is_acceptable, sheet_s};
 use crate::axis::Axis;
 use crate::drive_state::DriveState;
 use crate::homing::{all_routes, Way, METHODS, ON_LIMITS};

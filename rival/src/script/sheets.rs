@@ -10,7 +10,7 @@ use crate::sheet::{self, LAYOUTS, LONGEST};
 use crate::writer::{self, Settings};
 
 /// Sheet S of the paper.
-pub(super) fn sheet_s() -> Settings {
+pub fn sheet_s() -> Settings {
     Settings {
         method: 23,
         fast: 20000,
@@ -82,7 +82,7 @@ fn values_of(settings: &Settings) -> String {
 }
 
 /// In range, the stops sound.
-pub(super) fn is_acceptable(settings: &Settings) -> bool {
+pub fn is_acceptable(settings: &Settings) -> bool {
     writer::write(3, settings, &mut [0; LONGEST]).is_ok()
 }
 
