@@ -1,5 +1,6 @@
 -- 02, (vi): closed axes. Pairs that meet `Alike` home on a route and are answered alike. And for each equality that `Alike` asks for, for settings in
--- force, for position commands and for takeover: axes and lists that meet all else, and are answered otherwise. The checker evaluates both tables.
+-- force, for position commands and for takeover: axes and lists that, as they are built, meet all else and are answered otherwise. The checker evaluates
+-- both tables.
 -- Assumes nothing.
 use Prim.Native.Nat.{ℕ, _+_, _-_, _*_, _%_, _^_}
 use mathlib.Core.Path.{_≡_, refl}
@@ -28,6 +29,7 @@ use Rattle.legs.specs.Routes.{rowOf}
 use Rattle.legs.specs.Numbers.{mainRoute, turnRoute, skips, startRoute}
 use Rattle.homing.specs.Steps as steps
 use Rattle.homing.specs.Phase.{Idle, Running, Homed, Failed}
+use Rattle.homing.specs.Moving.{runningLeg}
 use Rattle.hybrid.specs.Hybrid.{quotientOf, sizeOf, negative, wholePart}
 use Rattle.states.specs.declared.State.the-variants.{SwitchOnDisabled, OperationEnabled, QuickStopActive}
 use Rattle.control.specs.Control.{controlCommandOf}
@@ -220,6 +222,17 @@ motions-differ m n es = differ (answersFrom (one m) es) (answersFrom (one n) es)
 abbrev disabled : Motion
 disabled = driven homed SwitchOnDisabled mode.Homing 0
 
+-- the leg of `running` with none after it; and where no limit turns it
+abbrev alone : ℕ
+alone = mainRoute 23 % 256
+
+abbrev unturned : ℕ
+unturned = mainRoute 23 - 32
+
+same-leg : (runningLeg (running .phase) ≡ runningLeg (Running alone)) × (runningLeg (running .phase) ≡ runningLeg (Running unturned))
+unfolding rowOf mainRoute
+same-leg = (refl, refl)
+
 unfoldable pub differing : List Bool
 differing =
     -- in that list, the answer to the position command
@@ -266,8 +279,8 @@ differing =
     ∷ motions-differ standing (phased standing Failed) (ask (Homing (pos 0)) ∷ [])
     ∷ motions-differ running (phased running Idle) (at 105 off ∷ [])
     -- the same leg, with no other after it, and where no limit turns it
-    ∷ motions-differ running (phased running (Running (mainRoute 23 % 256))) (at 110 HOM ∷ [])
-    ∷ motions-differ running (phased running (Running (mainRoute 23 - 32))) (at 100 POT ∷ [])
+    ∷ motions-differ running (phased running (Running alone)) (at 110 HOM ∷ [])
+    ∷ motions-differ running (phased running (Running unturned)) (at 100 POT ∷ [])
     -- a takeover, on one side, of S itself
     ∷ differ (answersFrom (one disabled) (S ++ still-tick 0x0000 Rest ∷ [])) (answersFrom (one disabled) (still-tick 0x0000 Rest ∷ []))
     ∷ []

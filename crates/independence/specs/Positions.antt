@@ -1,6 +1,6 @@
--- More than 02, (vi), asks: with position commands among the ticks, the answers to these may differ in position and status bit 11, and no other answer
--- does. So as long as nothing is taken over, gear, offset and stops in force, and home, reach no answer but that to a position command, and nothing else
--- of it; also after such a command. Proved in `proofs/Alike.antt`.
+-- More than 02, (vi), asks. With position commands among the ticks, the answers to these differ at most in position and status bit 11, and all other
+-- answers are equal, also after them. So, as long as nothing is taken over, gear, offset and stops in force, and home, reach position and bit 11 of the
+-- answer to a position command, and nothing else. Proved in `proofs/Alike.antt`.
 -- Assumes nothing.
 use Prim.Native.Nat.{ℕ, _-_, _^_}
 use mathlib.Core.Path.{_≡_}

@@ -1,1 +1,1 @@
-// What no answer depends on but that to a position command: gear, offset and stops. Theorems alone, in proofs/, over the statements in specs/.
+// Gear, offset and stops reach no tick's answer but that to a position command: theorems alone, in proofs/, over the statements in specs/.
