@@ -235,7 +235,7 @@ same-leg = (refl, refl)
 
 unfoldable pub differing : List Bool
 differing =
-    -- in that list, the answer to the position command
+    -- of `target-then-route`, the answer to the position command
     differ (answersFrom (one homed) target-then-route) (answersFrom (other homed) target-then-route)
     -- a position command: of axes that are alike, after homing; with another home; with another numerator, denominator, offset, lower and upper stop
     ∷ differ (answersFrom (one standing) rehearsed) (answersFrom (other standing) rehearsed)
