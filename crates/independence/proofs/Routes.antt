@@ -1,19 +1,18 @@
 -- The leg tells its route. From a start on homing stands on the routes of its method: a route that a start picks, the one of a turn, or what is left of
 -- one after a leg. These are a few numbers for each method, and it is computed over the table that no two of them begin with the same leg.
 -- Assumes nothing.
-use Prim.Native.Nat.{ℕ, _+_, _*_, _/_}
+use Prim.Native.Nat.{ℕ, _/_}
 use mathlib.Core.Path.{_≡_, refl, ap}
-use mathlib.Core.Bool.{Bool, true, false, cond, not, _&&_, _||_, false≢true}
+use mathlib.Core.Bool.{Bool, true, false, cond, not, _&&_, _||_, or-true, false≢true}
 use mathlib.Core.List.{List, [], _∷_, _++_}
 use mathlib.Core.Option.{Option, none, some, Option·some-injective, Option·none-ne-some, Option·some-ne-none}
 use borrow.Author.Tests.{eqb-true, eq-eqb}
 use lib.Dec.{eqb}
 use Rattle.settings.proofs.Within.{both}
 use Rattle.legs.specs.declared.events.Switches.{Switches}
-use Rattle.legs.specs.Legs.{Switch, Home, Index, LimitAhead, LimitBehind, Trigger, Rise, Drop, On, Leg}
 use Rattle.legs.specs.Events.{View, eventCounts, limitCounts}
 use Rattle.legs.specs.Routes.{Row, table, rowOf}
-use Rattle.legs.specs.Numbers.{mainRoute, turnRoute, skipRoute, skips, startRoute, legFrom, turnsIn}
+use Rattle.legs.specs.Numbers.{byteOf, mainRoute, turnRoute, skipRoute, skips, startRoute, legFrom, turnsIn}
 use Rattle.legs.proofs.Rows.{found-same}
 use Rattle.homing.specs.Phase.{Phase, Idle, Running, Homed, Failed}
 use Rattle.homing.specs.Moving.{runningLeg}
@@ -37,13 +36,9 @@ of-every f (x ∷ xs) e n h = go (eqb n x) refl h (of-every f xs (both (f x) (ev
     go true q h rest = rw (eqb-true n x q) (both (f x) (every f xs) e .0)
     go false q h rest = rest h
 
-or-right : (a b : Bool) → b ≡ true → a || b ≡ true
-or-right true b e = refl
-or-right false b e = e
-
 further : (n : ℕ) (xs ys : List ℕ) → has n ys ≡ true → has n (xs ++ ys) ≡ true
 further n [] ys h = h
-further n (x ∷ xs) ys h = or-right (eqb n x) (has n (xs ++ ys)) (further n xs ys h)
+further n (x ∷ xs) ys h = rw (further n xs ys h) (or-true (eqb n x))
 
 -- a route and what is left of it after its first and its second leg; none has more than three
 abbrev lefts : ℕ → List ℕ
@@ -52,27 +47,12 @@ lefts route = route ∷ route / 256 ∷ route / 256 / 256 ∷ []
 abbrev routes : ℕ → List ℕ
 routes method = lefts (mainRoute method) ++ lefts (turnRoute method) ++ lefts (skipRoute method)
 
--- a leg as a number
-abbrev switchNumber : Switch → ℕ
-switchNumber Home = 0
-switchNumber Index = 1
-switchNumber LimitAhead = 2
-switchNumber LimitBehind = 3
-
-abbrev triggerNumber : Trigger → ℕ
-triggerNumber Rise = 0
-triggerNumber Drop = 1
-triggerNumber On = 2
-
-abbrev legNumber : Leg → ℕ
-legNumber l = cond (l .forward) 1 0 + cond (l .fast) 2 0 + 4 * switchNumber (l .event .switch) + 16 * triggerNumber (l .event .trigger)
-
 -- what is computed: what a leg leaves is among them, or no leg is left; and with one leg, one route
 abbrev goes-on : List ℕ → ℕ → Bool
 goes-on ns n = eqb (n / 256) 0 || has (n / 256) ns
 
 abbrev tells : ℕ → ℕ → Bool
-tells n m = not (eqb (legNumber (legFrom n)) (legNumber (legFrom m))) || eqb n m
+tells n m = not (eqb (byteOf (legFrom n)) (byteOf (legFrom m))) || eqb n m
 
 pub record LegsTell (m : ℕ) : Type 0 where
   pub closed : every (goes-on (routes m)) (routes m) ≡ true
@@ -142,14 +122,14 @@ starts m s = go (rowOf m) refl
   where
     go : (o : Option Row) → rowOf m ≡ o → OnRoute m (startIn m s o)
     go none e = idle
-    go (some r) e = enters m (computed m r e) (startRoute m s) (or-right (eqb (startRoute m s) 0) (has (startRoute m s) (routes m)) (has-picked m (skips m s)))
+    go (some r) e = enters m (computed m r e) (startRoute m s) (rw (has-picked m (skips m s)) (or-true (eqb (startRoute m s) 0)))
 
 -- ---- so the leg tells the route
 
 one-route : (m : ℕ) → LegsTell m → (n l : ℕ) → has n (routes m) ≡ true → has l (routes m) ≡ true → legFrom n ≡ legFrom l → n ≡ l
 one-route m k n l h g e =
     let t = of-every (tells n) (routes m) (of-every (λ x. every (tells x) (routes m)) (routes m) (k .told) n h) l g in
-    eqb-true n l (rw (ap legNumber e, eq-eqb (legNumber (legFrom l)) (legNumber (legFrom l)) refl) at t)
+    eqb-true n l (rw (ap byteOf e, eq-eqb (byteOf (legFrom l)) (byteOf (legFrom l)) refl) at t)
 
 -- where one does not run, neither does the other
 at-rest : (m : ℕ) {q : Phase} → OnRoute m q → none ≡ runningLeg q → none ≡ runningFrom q

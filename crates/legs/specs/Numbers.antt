@@ -28,7 +28,7 @@ triggerBit On = 64
 -- the byte of a leg: its switch's place in a word of switches (POT, NOT, HOM, Z), 4 more if it awaits the drop, 64 more if it awaits the
 -- level, 8 more if it goes forward, 16 more if it is fast; 32 is for the turn (`mainIn`). No leg of the table has the byte 0. So the bytes of
 -- a route spell its legs: computed over the table, `homing/proofs/Simulation.antt`.
-abbrev byteOf : Leg → ℕ
+abbrev pub byteOf : Leg → ℕ
 byteOf l =
     switchPlace (l .event .switch) (l .forward) + triggerBit (l .event .trigger) + cond (l .forward) 8 0 + cond (l .fast) 16 0
 
