@@ -3,7 +3,7 @@
 use mathlib.Core.Path.{_≡_}
 use native.Mathlib.Omega.{arith}
 use Rattle.settings.specs.declared.Refusal.{Refusal}
-use Rattle.settings.specs.declared.Refusal.the-variants.{OutOfSequence, UnknownLayout, OutOfRange, ChecksumMismatch, LimitsCrossed, OutOfReach, DriveActive, NoSettings, BufferTooShort, LongValue, HomingTorqueLost}
+use Rattle.settings.specs.declared.Refusal.the-variants.{OutOfSequence, UnknownLayout, OutOfRange, ChecksumMismatch, LimitsCrossed, OutOfReach, DriveActive, NoSettings, BufferTooShort, LongValue, HomingTorqueLost, RailUnfit}
 use Rattle.settings.specs.Refusal.{numberOf}
 
 pub not-zero : (r : Refusal) → numberOf r ≡ 0 → ⊥
@@ -18,3 +18,4 @@ not-zero NoSettings e = omega arith
 not-zero BufferTooShort e = omega arith
 not-zero LongValue e = omega arith
 not-zero HomingTorqueLost e = omega arith
+not-zero RailUnfit e = omega arith

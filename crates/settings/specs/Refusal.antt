@@ -4,7 +4,7 @@ use Prim.Native.Nat.{ℕ}
 use mathlib.Core.Bool.{Bool, cond}
 use mathlib.Core.List.{List, [], _∷_}
 use Rattle.settings.specs.declared.Refusal.{Refusal}
-use Rattle.settings.specs.declared.Refusal.the-variants.{OutOfSequence, UnknownLayout, OutOfRange, ChecksumMismatch, LimitsCrossed, OutOfReach, DriveActive, NoSettings, BufferTooShort, LongValue, HomingTorqueLost}
+use Rattle.settings.specs.declared.Refusal.the-variants.{OutOfSequence, UnknownLayout, OutOfRange, ChecksumMismatch, LimitsCrossed, OutOfReach, DriveActive, NoSettings, BufferTooShort, LongValue, HomingTorqueLost, RailUnfit}
 use Rattle.settings.specs.declared.Verdict.{Verdict}
 use Rattle.settings.specs.declared.Verdict.the-variants.{Accepted, Refused}
 
@@ -20,6 +20,7 @@ numberOf NoSettings = 8  -- no sheet
 numberOf BufferTooShort = 9  -- short buffer
 numberOf LongValue = 10  -- long value
 numberOf HomingTorqueLost = 11  -- homing torque lost
+numberOf RailUnfit = 12  -- rail unfit
 
 -- "an accepted word, a filled buffer and a tick not refused carry 0"
 abbrev pub verdictNumber : Verdict → ℕ

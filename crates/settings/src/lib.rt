@@ -36,7 +36,7 @@ pub struct Settings {
     pub homing: u32,
 }
 
-// Why a settings word, settings, a tick or a lent buffer is refused (01: refused words, ticks and buffers; 02).
+// Why a settings word, settings, a tick, a lent buffer or a run on a rail is refused (01: refused words, ticks and buffers; 02).
 pub enum Refusal {
     OutOfSequence,
     UnknownLayout,
@@ -49,6 +49,7 @@ pub enum Refusal {
     BufferTooShort,
     LongValue,
     HomingTorqueLost,
+    RailUnfit,
 }
 
 pub enum Verdict {
@@ -72,6 +73,7 @@ pub fn number(refusal: Refusal) -> u32
         Refusal::BufferTooShort => 9,
         Refusal::LongValue => 10,
         Refusal::HomingTorqueLost => 11,
+        Refusal::RailUnfit => 12,
     }
 }
 

@@ -1,0 +1,1 @@
+// What the simulator promises of its runs: theorems alone, in proofs/, over the statements in specs/.

@@ -1,0 +1,5 @@
+pub mod Phases
+pub mod Stretches
+pub mod Settled
+pub mod Runs
+pub mod Traces

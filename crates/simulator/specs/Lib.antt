@@ -1,0 +1,3 @@
+pub mod Run
+pub mod Stretch
+pub mod Trace
