@@ -2,6 +2,7 @@
 
 use crate::lines::{Unreadable, LONGEST};
 use crate::refusal::Refusal;
+use crate::simulator::{Run, Stop};
 use crate::tick::Answer;
 
 fn number(refusal: Option<Refusal>) -> u8 {
@@ -30,6 +31,23 @@ pub fn tick(answer: &Answer) -> String {
 pub fn written(keyword: &str, refusal: Option<Refusal>, buffer: &[u32]) -> String {
     let words: String = buffer.iter().map(|word| format!(" {word:08X}")).collect();
     format!("{keyword} {}{words}{}", number(refusal), closing(refusal))
+}
+
+/// The simulator's, to a `run` or a `picture` line. "A refused run has T 0 and STOP `none`."
+pub fn run(keyword: &str, run: &Result<Run, Refusal>) -> String {
+    let (refusal, ticks, stop) = match run {
+        Ok(run) => (None, run.ticks, stop(run.stop)),
+        Err(refusal) => (Some(*refusal), 0, "none"),
+    };
+    format!("{keyword} {} ticks {ticks} stop {stop}{}", number(refusal), closing(refusal))
+}
+
+fn stop(stop: Stop) -> &'static str {
+    match stop {
+        Stop::Homed => "homed",
+        Stop::Error => "error",
+        Stop::Ticks => "ticks",
+    }
 }
 
 pub fn unreadable(line: u64, unreadable: &Unreadable) -> String {

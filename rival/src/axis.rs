@@ -4,7 +4,7 @@ use crate::command::Command;
 use crate::control_word::{ControlWord, FAULT_RESET, HALT, HOMING_START};
 use crate::drive_state::{Cause, DriveState};
 use crate::gear;
-use crate::homing::{self, Homing, Moment};
+use crate::homing::{self, Homing, Moment, Record};
 use crate::refusal::Refusal;
 use crate::sheet::Sheet;
 use crate::statusword::{statusword, Shown};
@@ -21,9 +21,9 @@ pub struct Axis {
     shown_mode: i8,
     alarm_number: u32,
     remembered: ControlWord,
-    /// The ticks since the latest homing start, that one first. The last of them also remembers switches and position for
-    /// the next, so the axis keeps no others. A takeover forgets them all: then neither homed nor error, homing idle.
-    since_start: Vec<Moment>,
+    /// The ticks since the latest homing start, if there was one. They also remember switches and position for the next, so
+    /// the axis keeps no others. A takeover forgets them all: then neither homed nor error, homing idle.
+    since_start: Option<Record>,
 }
 
 impl Axis {
@@ -56,18 +56,17 @@ impl Axis {
         self.unfinished.run()
     }
 
-    pub fn since_start(&self) -> &[Moment] {
-        &self.since_start
-    }
-
     pub fn homing(&self) -> Homing {
-        self.sheet.map_or(Homing::Idle, |sheet| homing::read(sheet.method(), &self.since_start))
+        match (&self.sheet, &self.since_start) {
+            (Some(sheet), Some(record)) => homing::read(sheet.method(), record),
+            _ => Homing::Idle,
+        }
     }
 
     pub fn word(&mut self, word: u32) -> Result<(), Refusal> {
         if let Some(sheet) = self.unfinished.hear(word, self.state)? {
             self.sheet = Some(sheet);
-            self.since_start.clear();
+            self.since_start = None;
         }
         Ok(())
     }
@@ -80,7 +79,7 @@ impl Axis {
         let matched = self.show_mode(tick);
         self.change_state(tick, &sheet);
         let enabled = self.state == DriveState::OperationEnabled;
-        self.record(tick, matched && enabled);
+        self.record(tick, &sheet, matched && enabled);
         self.remembered = tick.control;
         let homing = self.homing();
 
@@ -144,14 +143,13 @@ impl Axis {
 
     /// "Homing starts when control bit 4 rises, homing is matched and the new state is Operation enabled." Ticks before any
     /// start have no part in a reading.
-    fn record(&mut self, tick: &Tick, matched_and_enabled: bool) {
+    fn record(&mut self, tick: &Tick, sheet: &Sheet, matched_and_enabled: bool) {
         let may_home = matched_and_enabled && matches!(tick.command, Command::Homing { .. });
-        let starts = may_home && tick.control.rises(HOMING_START, self.remembered);
-        if starts {
-            self.since_start.clear();
-        }
-        if starts || !self.since_start.is_empty() {
-            self.since_start.push(Moment { control: tick.control, switches: tick.switches, position: tick.position, may_home });
+        let moment = Moment { control: tick.control, switches: tick.switches, position: tick.position, may_home };
+        if may_home && tick.control.rises(HOMING_START, self.remembered) {
+            self.since_start = Some(Record::begin(moment));
+        } else if let Some(record) = &mut self.since_start {
+            record.add(sheet.method(), moment);
         }
     }
 }

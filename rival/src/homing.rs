@@ -1,6 +1,6 @@
 //! Homing, read from the recorded ticks: the list since the latest start is cut into one stretch a leg.
 //!
-//! Nothing of homing is kept from tick to tick. Each reading begins at the start tick and cuts the whole list anew.
+//! No homing phase is kept from tick to tick. Each reading begins at the start tick and cuts the whole list anew.
 
 use crate::control_word::{ControlWord, HALT, HOMING_START};
 use crate::sheet::Sheet;
@@ -197,6 +197,37 @@ impl Moment {
     }
 }
 
+/// A tick after the start, and the one before it, which is remembered.
+#[derive(Clone, Copy, Debug)]
+struct Step {
+    before: Moment,
+    now: Moment,
+}
+
+/// The ticks since the latest homing start. One that leaves the reading as it was ends no stretch, so no later reading needs
+/// it but as the tick before: such ticks are left out, and a long run is read as fast as a short one.
+#[derive(Clone, Debug)]
+pub struct Record {
+    start: Moment,
+    steps: Vec<Step>,
+    last: Moment,
+}
+
+impl Record {
+    pub fn begin(start: Moment) -> Record {
+        Record { start, steps: Vec::new(), last: start }
+    }
+
+    pub fn add(&mut self, method: u32, now: Moment) {
+        let reading = read(method, self);
+        self.steps.push(Step { before: self.last, now });
+        if read(method, self) == reading {
+            self.steps.pop();
+        }
+        self.last = now;
+    }
+}
+
 impl Leg {
     /// "position minus remembered position, taken modulo 2^32 and read as signed, has the leg's sign"
     fn moves(&self, before: &Moment, now: &Moment) -> bool {
@@ -299,30 +330,27 @@ impl Route {
 
     /// Cuts the ticks after the start into one stretch a leg, each ending at its first counting event. Nothing is returned
     /// where the ticks are those of another route.
-    fn cut(&self, ticks: &[Moment]) -> Option<Homing> {
-        let mut from = 1; // the start tick "counts no event", and a limit counts "after the start tick"
+    fn cut(&self, record: &Record) -> Option<Homing> {
+        let mut home = record.start.position;
+        let mut steps = record.steps.iter(); // the start tick "counts no event", and a limit counts "after the start tick"
         for (place, leg) in self.legs().enumerate() {
-            let stretch = (from..ticks.len())
-                .find_map(|at| self.ending(place, &leg, &ticks[at - 1], &ticks[at]).map(|ending| (at, ending)));
+            let stretch = steps.find_map(|Step { before, now }| Some((now, self.ending(place, &leg, before, now)?)));
             match stretch {
                 None => return Some(Homing::Runs { leg, way: self.way, place }),
-                Some((at, Ending::Event)) => from = at + 1,
+                Some((now, Ending::Event)) => home = now.position,
                 Some((_, Ending::Idled)) => return Some(Homing::Idle),
                 Some((_, Ending::Error)) => return Some(Homing::Error),
                 Some((_, Ending::AnotherRoute)) => return None,
             }
         }
-        Some(Homing::Homed { home: ticks[from - 1].position, way: self.way }) // "ticks after the last event undo nothing"
+        Some(Homing::Homed { home, way: self.way }) // "ticks after the last event undo nothing"
     }
 }
 
-/// The reading of the ticks since the latest homing start, that tick first; an empty list where there was none since the
-/// takeover. What first happens in the first stretch is either a's or b's, so one of the two always fits.
-pub fn read(method: u32, since_start: &[Moment]) -> Homing {
-    let Some(start) = since_start.first() else {
-        return Homing::Idle;
-    };
-    let on = decider(method).is_some_and(|switch| start.switches.on(switch));
-    let reading = routes(method, on).iter().find_map(|route| route.cut(since_start));
+/// The reading of the ticks since the latest homing start. What first happens in the first stretch is either a's or b's, so one
+/// of the two always fits.
+pub fn read(method: u32, record: &Record) -> Homing {
+    let on = decider(method).is_some_and(|switch| record.start.switches.on(switch));
+    let reading = routes(method, on).iter().find_map(|route| route.cut(record));
     reading.expect("the ticks are those of one of the routes allowed")
 }

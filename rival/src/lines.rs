@@ -6,6 +6,7 @@ use crate::command::Command;
 use crate::control_word::ControlWord;
 use crate::hybrid::Hybrid;
 use crate::numerals;
+use crate::rail::Rail;
 use crate::sheet::LimitSet;
 use crate::tick::{Switches, Tick};
 use crate::writer::Settings;
@@ -74,6 +75,17 @@ pub enum Line {
         length: usize,
         settings: Box<Settings>,
     },
+    Settings(Box<Settings>),
+    Rail(Rail),
+    Run(Trial),
+    Picture(Trial),
+}
+
+/// What a `run` or `picture` line asks for.
+#[derive(Clone, Copy, Debug, PartialEq, Eq)]
+pub struct Trial {
+    pub start: i64,
+    pub ticks: i64,
 }
 
 /// Where a line stops being readable, and what was expected there.
@@ -155,6 +167,10 @@ enum Keyword {
     Tick,
     Sheet,
     Layout,
+    Settings,
+    Rail,
+    Run,
+    Picture,
     Fresh,
 }
 
@@ -170,8 +186,13 @@ pub fn read(text: &Text) -> Result<Line, Unreadable> {
         b"word" => Some(Keyword::Word),
         b"tick" => Some(Keyword::Tick),
         b"sheet" => Some(Keyword::Sheet),
-        b"layout" => Some(Keyword::Layout), // not named in the answer: "the lines below never change"
         b"fresh" => Some(Keyword::Fresh),
+        // Those after the base are not named in the answer: its text "never changes".
+        b"layout" => Some(Keyword::Layout),
+        b"settings" => Some(Keyword::Settings),
+        b"rail" => Some(Keyword::Rail),
+        b"run" => Some(Keyword::Run),
+        b"picture" => Some(Keyword::Picture),
         _ => None,
     })?;
     let line = match keyword {
@@ -180,12 +201,12 @@ pub fn read(text: &Text) -> Result<Line, Unreadable> {
         Keyword::Sheet => Line::Sheet { length: length(&mut words)?, settings: Box::new(settings(&mut words)?) },
         Keyword::Layout => {
             let (layout, length) = (words.u32()?, length(&mut words)?);
-            let mut settings = Box::new(settings(&mut words)?);
-            if !words.are_over() {
-                settings.homing_torque = words.u32()?.into();
-            }
-            Line::Layout { layout, length, settings }
+            Line::Layout { layout, length, settings: Box::new(settings_and_homing(&mut words)?) }
         }
+        Keyword::Settings => Line::Settings(Box::new(settings_and_homing(&mut words)?)),
+        Keyword::Rail => Line::Rail(rail(&mut words)?),
+        Keyword::Run => Line::Run(trial(&mut words)?),
+        Keyword::Picture => Line::Picture(trial(&mut words)?),
         Keyword::Fresh => Line::Fresh,
     };
     words.end()?;
@@ -291,4 +312,27 @@ fn settings(words: &mut Words) -> Result<Settings, Unreadable> {
         ..Settings::default()
     };
     Ok(Settings { homing_torque: read.maximum_torque, ..read })
+}
+
+/// "A word after RATED is read by `layout` and `settings` as HOMING."
+fn settings_and_homing(words: &mut Words) -> Result<Settings, Unreadable> {
+    let mut read = settings(words)?;
+    if !words.are_over() {
+        read.homing_torque = words.u32()?.into();
+    }
+    Ok(read)
+}
+
+fn rail(words: &mut Words) -> Result<Rail, Unreadable> {
+    Ok(Rail {
+        length: words.u32()?.into(),
+        cam: words.u32()?.into(),
+        width: words.u32()?.into(),
+        fast: words.u32()?.into(),
+        slow: words.u32()?.into(),
+    })
+}
+
+fn trial(words: &mut Words) -> Result<Trial, Unreadable> {
+    Ok(Trial { start: words.i32()?.into(), ticks: words.u32()?.into() })
 }

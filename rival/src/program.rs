@@ -1,8 +1,12 @@
-//! One line in, one answer out, in order, from a fresh axis on.
+//! One line in, one answer out, in order, from a fresh axis on. A picture alone has more lines.
 
 use crate::answers;
 use crate::axis::Axis;
-use crate::lines::{self, Line, Text, Unreadable};
+use crate::lines::{self, Line, Text, Trial, Unreadable};
+use crate::picture;
+use crate::rail::Rail;
+use crate::refusal::Refusal;
+use crate::simulator::{self, Run};
 use crate::writer::{self, Settings};
 
 /// What each word of a lent buffer holds before the call.
@@ -11,6 +15,9 @@ const LENT: u32 = 0xDEAD_BEEF;
 #[derive(Default)]
 pub struct Program {
     axis: Axis,
+    /// Those of later runs, "acceptable or not"; "before the first all their numbers are 0".
+    settings: Settings,
+    rail: Rail,
     line: u64,
 }
 
@@ -37,8 +44,29 @@ impl Program {
             Ok(Line::Tick(tick)) => Some(answers::tick(&self.axis.tick(tick))),
             Ok(Line::Sheet { length, settings }) => Some(written("sheet", 1, *length, settings)),
             Ok(Line::Layout { layout, length, settings }) => Some(written("layout", *layout, *length, settings)),
+            Ok(Line::Settings(settings)) => {
+                self.settings = (**settings).clone();
+                Some("settings".to_string())
+            }
+            Ok(Line::Rail(rail)) => {
+                self.rail = *rail;
+                Some("rail".to_string())
+            }
+            Ok(Line::Run(trial)) => Some(answers::run("run", &self.run(trial))),
+            Ok(Line::Picture(trial)) => Some(self.picture(trial)),
             Err(unreadable) => Some(answers::unreadable(self.line, unreadable)),
         }
+    }
+
+    /// On a fresh axis of its own: "the axis is left alone".
+    fn run(&self, trial: &Trial) -> Result<Run, Refusal> {
+        simulator::run(&self.rail, &self.settings, trial.start, trial.ticks)
+    }
+
+    fn picture(&self, trial: &Trial) -> String {
+        let run = self.run(trial);
+        let rows = run.as_ref().map_or(Vec::new(), |run| picture::rows(&self.rail, trial.start, run));
+        [vec![answers::run("picture", &run)], rows].concat().join("\n")
     }
 }
 

@@ -13,6 +13,7 @@ pub enum Refusal {
     ShortBuffer = 9,
     LongValue = 10,
     HomingTorqueLost = 11,
+    RailUnfit = 12,
 }
 
 impl Refusal {
@@ -33,6 +34,7 @@ impl Refusal {
             Refusal::ShortBuffer => "short buffer",
             Refusal::LongValue => "long value",
             Refusal::HomingTorqueLost => "homing torque lost",
+            Refusal::RailUnfit => "rail unfit",
         }
     }
 }

@@ -4,6 +4,7 @@ mod gears;
 mod homing_torque;
 mod layouts;
 mod needed;
+mod rails;
 mod rehearsals;
 mod settings;
 mod text;
@@ -14,13 +15,15 @@ use std::collections::BTreeMap;
 use crate::axis::Axis;
 use crate::lines::{self, Line, Text};
 use crate::refusal::Refusal;
-use crate::tick::Switches;
+use crate::tick::{Switches, Tick};
 
 pub struct Tally {
     axis: Axis,
     /// Those of the tick before, which the rival keeps only while it records for homing.
     switches: Switches,
     stretch: Stretch,
+    /// The latest tick that was not halted, or the homing start, and the halted ones after it.
+    recent: Vec<Tick>,
     /// The refusal of the word before and the kind that was due then.
     refused: Option<(Refusal, u32)>,
     /// A takeover since the last tick.
@@ -29,6 +32,7 @@ pub struct Tally {
     left: Option<u32>,
     stale: Stale,
     rehearsals: rehearsals::Rehearsals,
+    rails: rails::Rails,
     counts: BTreeMap<String, u64>,
 }
 
@@ -52,16 +56,18 @@ struct Stale {
 
 impl Default for Tally {
     fn default() -> Tally {
-        let counts = needed::names().into_iter().map(|name| (name, 0)).collect();
+        let counts = needed::names().into_iter().chain(rails::names()).map(|name| (name, 0)).collect();
         Tally {
             axis: Axis::default(),
             switches: Switches::default(),
             stretch: Stretch::default(),
+            recent: Vec::new(),
             refused: None,
             taken_over: false,
             left: None,
             stale: Stale::default(),
             rehearsals: Default::default(),
+            rails: Default::default(),
             counts,
         }
     }
@@ -70,7 +76,16 @@ impl Default for Tally {
 impl Tally {
     /// Each thing to reach and how often it happened, in the order they are named.
     pub fn table(&self) -> Vec<(String, u64)> {
-        needed::names().into_iter().map(|name| (name.clone(), self.counts[&name])).collect()
+        self.counted(needed::names())
+    }
+
+    /// The same of runs on paper rails, which have scripts of their own.
+    pub fn rails_table(&self) -> Vec<(String, u64)> {
+        self.counted(rails::names())
+    }
+
+    fn counted(&self, names: Vec<String>) -> Vec<(String, u64)> {
+        names.into_iter().map(|name| (name.clone(), self.counts[&name])).collect()
     }
 
     /// One line, its bytes with their end.
@@ -87,14 +102,19 @@ impl Tally {
                 self.axis = Axis::default();
                 self.switches = Switches::default();
                 self.stretch = Stretch::default();
+                self.recent.clear();
                 self.refused = None;
                 self.taken_over = false;
                 self.left = None;
                 self.stale = Stale::default();
                 self.rehearsals.fresh();
+                self.rails.fresh();
             }
             Ok(Line::Word(word)) => self.saw_word(word),
-            Ok(Line::Tick(tick)) => self.saw_tick(&tick),
+            Ok(Line::Tick(tick)) => {
+                self.saw_tick(&tick);
+                self.saw_tick_after_a_run();
+            }
             Ok(Line::Sheet { length, settings }) => {
                 self.saw(&format!("writer: buffer of {length}"));
                 self.saw_if(settings.is_long() && length >= 15, "writer: long value by a sheet line");
@@ -105,6 +125,10 @@ impl Tally {
                 self.saw_layout_line(layout, length, &settings);
                 self.saw_homing_field(layout, &settings, before_comment(&text));
             }
+            Ok(Line::Settings(settings)) => self.saw_settings(*settings, before_comment(&text)),
+            Ok(Line::Rail(rail)) => self.saw_rail_line(rail),
+            Ok(Line::Run(trial)) => self.saw_trial("run", trial),
+            Ok(Line::Picture(trial)) => self.saw_trial("picture", trial),
             Ok(Line::Blank) | Err(_) => {}
         }
     }

@@ -22,7 +22,7 @@ fn answers(script: &[u8]) -> String {
 #[test]
 fn scripts_of_the_programs() {
     let crates = Path::new(env!("CARGO_MANIFEST_DIR")).join("../crates");
-    for name in ["examples", "rail", "torn", "maximum", "show"] {
+    for name in ["examples", "rail", "torn", "maximum", "simulate", "show"] {
         let script = fs::read(crates.join(name).join("stdin")).expect("the script is there");
         let expected = fs::read_to_string(crates.join(name).join("stdout")).expect("its answers are there");
         assert_eq!(answers(&script), expected, "{name}");

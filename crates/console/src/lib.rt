@@ -54,7 +54,7 @@ fn fresh() -> Console
 fn reply(session: Session, line: &[u8], held: Held, out: &mut [u8]) -> Turn
     ensures { λ r. ⌜ r .length ≤ length (now (out .exit)) ⌝ }
     ensures { λ r. ⌜ ((bs : List ℕ) → 256 ≤ length (now (line .entry)) → Holds (now (line .entry)) held bs → meant (r .session) ≡ afterLine (meant session) bs) ⌝ }
-    ensures { λ r. ⌜ ((bs : List ℕ) → 256 ≤ length (now (line .entry)) → 512 ≤ length (now (out .entry)) → Holds (now (line .entry)) held bs → take (r .length) (now (out .exit)) ≡ answerTo (meant session) bs) ⌝ }
+    ensures { λ r. ⌜ ((bs : List ℕ) → 256 ≤ length (now (line .entry)) → 1024 ≤ length (now (out .entry)) → Holds (now (line .entry)) held bs → take (r .length) (now (out .exit)) ≡ answerTo (meant session) bs) ⌝ }
 {
     match gather::end(line, held) {
         Ended::Text(n) => session.line(&line[..n], out),
@@ -66,7 +66,7 @@ fn reply(session: Session, line: &[u8], held: Held, out: &mut [u8]) -> Turn
 fn answer(session: Session, line: &[u8], held: Held) -> Session
     ensures { λ r. ⌜ ((bs : List ℕ) → 256 ≤ length (now (line .entry)) → Holds (now (line .entry)) held bs → meant r ≡ afterLine (meant session) bs) ⌝ }
 {
-    let mut out = [0u8; 512];
+    let mut out = [0u8; 1024];
     let turn = reply(session, line, held, &mut out);
     let written = turn.length;
     io::write_all(STDOUT_FILENO, &out[..written]);
@@ -177,6 +177,13 @@ fn print_usage() {
         b"  layout LAYOUT LENGTH METHOD FAST SLOW OFFSET NUM DEN LOWER UPPER MAX P1 N1 P2 N2 OPTION RATED [HOMING]\n",
     );
     io::write_all(STDOUT_FILENO, b"  fresh\n");
+    io::write_all(
+        STDOUT_FILENO,
+        b"  settings METHOD FAST SLOW OFFSET NUM DEN LOWER UPPER MAX P1 N1 P2 N2 OPTION RATED [HOMING]\n",
+    );
+    io::write_all(STDOUT_FILENO, b"  rail LENGTH CAM WIDTH FAST SLOW\n");
+    io::write_all(STDOUT_FILENO, b"  run START TICKS\n");
+    io::write_all(STDOUT_FILENO, b"  picture START TICKS\n");
     io::write_all(
         STDOUT_FILENO,
         b"docs/LINES.md says what each word of a line means.\n",

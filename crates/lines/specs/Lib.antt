@@ -1,2 +1,4 @@
 pub mod Lines
+pub mod Rails
+pub mod Runs
 pub mod Ticks

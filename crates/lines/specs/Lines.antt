@@ -1,7 +1,7 @@
 -- What a line says: its first word tells which line it is, and one with no word is blank.
 -- Assumes nothing.
 use Prim.Native.Nat.{ℕ, _+_, min}
-use mathlib.Core.Bool.{cond}
+use mathlib.Core.Bool.{true, cond}
 use mathlib.Core.List.{List, [], _∷_}
 use lib.Dec.{eqb}
 use lib.ListN.{length, take}
@@ -12,12 +12,14 @@ use Rattle.cursors.specs.declared.Expected.the-variants as expected
 use Rattle.keywords.specs.Keywords.{meaningOf}
 use Rattle.spelling.specs.Spelling.{spelledOf}
 use Rattle.scanner.specs.Readings.{numberAt}
-use Rattle.sheets.specs.Sheets.{sheetRead, layoutRead}
+use Rattle.sheets.specs.Sheets.{settingsRead, sheetRead, layoutRead}
 use Rattle.tokens.specs.declared.Span.{Span}
 use Rattle.tokens.specs.Ascii.{ascii}
 use Rattle.tokens.specs.Words.{nextWord, bytesOf}
 use Rattle.lines.specs.declared.Line.{Line}
 use Rattle.lines.specs.declared.Line.the-variants as line
+use Rattle.lines.specs.Rails.{railRead}
+use Rattle.lines.specs.Runs.{trialRead}
 use Rattle.lines.specs.Ticks.{tickRead}
 
 -- "COLUMN, in bytes from 1"; at most 256, a guard, since a line has at most 255 bytes
@@ -47,6 +49,18 @@ sheetLine text c = endedBy text (sheetRead text c .cursor) (line.Sheet (sheetRea
 abbrev pub layoutLine : List ℕ → Cursor → Line
 layoutLine text c = endedBy text (layoutRead text c .cursor) (line.Layout (layoutRead text c .writing))
 
+abbrev pub settingsLine : List ℕ → Cursor → Line
+settingsLine text c = endedBy text (settingsRead true text c .cursor) (line.Settings (settingsRead true text c .settings))
+
+abbrev pub railLine : List ℕ → Cursor → Line
+railLine text c = endedBy text (railRead text c .cursor) (line.Rail (railRead text c .rail))
+
+abbrev pub runLine : List ℕ → Cursor → Line
+runLine text c = endedBy text (trialRead text c .cursor) (line.Run (trialRead text c .trial))
+
+abbrev pub pictureLine : List ℕ → Cursor → Line
+pictureLine text c = endedBy text (trialRead text c .cursor) (line.Picture (trialRead text c .trial))
+
 -- a line by its first word; `next` is the cursor past it
 abbrev pub openings : List ℕ → Cursor → List (List ℕ × Line)
 openings text next =
@@ -55,6 +69,10 @@ openings text next =
     ∷ (ascii "sheet", sheetLine text next)
     ∷ (ascii "layout", layoutLine text next)
     ∷ (ascii "fresh", endedBy text next line.Fresh)
+    ∷ (ascii "settings", settingsLine text next)
+    ∷ (ascii "rail", railLine text next)
+    ∷ (ascii "run", runLine text next)
+    ∷ (ascii "picture", pictureLine text next)
     ∷ []
 
 abbrev pub openedBy : List ℕ → Span → Line

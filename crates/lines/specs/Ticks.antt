@@ -1,21 +1,20 @@
 -- "tick HEX4 COMMAND at I32 SWITCHES STILL SET HEX8"
 -- Assumes nothing.
-use Prim.Native.Nat.{ℕ, _^_}
+use Prim.Native.Nat.{ℕ}
 use mathlib.Core.List.{List}
-use Rattle.numerals.specs.Signs.{signedWhole}
 use Rattle.spelling.specs.Spelling.{spelledOf}
 use Rattle.cursors.specs.declared.Cursor.{Cursor}
 use Rattle.cursors.specs.declared.Expected.the-variants as expected
 use Rattle.choices.specs.Choices.{atRead, standstillRead, setRead, switchesRead}
 use Rattle.orders.specs.Orders.{commandRead}
-use Rattle.scanner.specs.Readings.{numberAt, wholeAt}
+use Rattle.scanner.specs.Readings.{numberAt, whole32At}
 use Rattle.lines.specs.declared.tick_line.TickRead.{TickRead}
 
 unfoldable pub tickRead : List ℕ → Cursor → TickRead
 tickRead text c =
     let control = numberAt (spelledOf 16 4) expected.Digits text c in
     let asked = commandRead text (control .cursor) in
-    let position = wholeAt (signedWhole (2 ^ 31)) text (atRead text (asked .cursor)) in
+    let position = whole32At text (atRead text (asked .cursor)) in
     let switches = switchesRead text (position .cursor) in
     let still = standstillRead text (switches .cursor) in
     let set = setRead text (still .cursor) in

@@ -1,19 +1,29 @@
 // What a line of the program says.
+mod rail_line;
+mod run_line;
 mod tick_line;
 
+use carriage::Rail;
 use cursors::Cursor;
 use cursors::Expected;
+use settings::Settings;
 use sheets::Writing;
 use ticks::Tick;
 ghost use mathlib.Core.Path.{_≡_};
 ghost use lib.ListN.{getD};
 ghost use Rattle.keywords.specs.Keywords.{meanings};
-ghost use Rattle.lines.specs.Lines.{columnOf, lostAt, endedBy, wordLine, tickLine, sheetLine, layoutLine, openings, contentOf, lineOf};
+ghost use Rattle.lines.specs.Lines.{columnOf, lostAt, endedBy, wordLine, tickLine, sheetLine, layoutLine, settingsLine, railLine, runLine, pictureLine, openings, contentOf, lineOf};
 
 // A line that cannot be read: the column, from 1, and what was expected there.
 pub struct Trouble {
     pub column: usize,
     pub expected: Expected,
+}
+
+// A run, on the rail and under the settings that were told before: the start cell, and the ticks that it is given.
+pub struct Trial {
+    pub start: i32,
+    pub ticks: u32,
 }
 
 pub enum Line {
@@ -23,6 +33,10 @@ pub enum Line {
     Tick(Tick),
     Sheet(Writing),
     Layout(Writing),
+    Settings(Settings),
+    Rail(Rail),
+    Run(Trial),
+    Picture(Trial),
     Unreadable(Trouble),
 }
 
@@ -86,6 +100,42 @@ fn one_layout(text: &[u8], cursor: Cursor) -> Line
     ended(text, cursor, Line::Layout(writing))
 }
 
+fn run_settings(text: &[u8], cursor: Cursor) -> Line
+    ensures { λ r. ⌜ r ≡ settingsLine (now (text .entry)) cursor ⌝ }
+{
+    let read = sheets::settings(text, cursor);
+    let settings = read.settings;
+    let cursor = read.cursor;
+    ended(text, cursor, Line::Settings(settings))
+}
+
+fn one_rail(text: &[u8], cursor: Cursor) -> Line
+    ensures { λ r. ⌜ r ≡ railLine (now (text .entry)) cursor ⌝ }
+{
+    let read = rail_line::rail(text, cursor);
+    let rail = read.rail;
+    let cursor = read.cursor;
+    ended(text, cursor, Line::Rail(rail))
+}
+
+fn one_run(text: &[u8], cursor: Cursor) -> Line
+    ensures { λ r. ⌜ r ≡ runLine (now (text .entry)) cursor ⌝ }
+{
+    let read = run_line::trial(text, cursor);
+    let trial = read.trial;
+    let cursor = read.cursor;
+    ended(text, cursor, Line::Run(trial))
+}
+
+fn one_picture(text: &[u8], cursor: Cursor) -> Line
+    ensures { λ r. ⌜ r ≡ pictureLine (now (text .entry)) cursor ⌝ }
+{
+    let read = run_line::trial(text, cursor);
+    let trial = read.trial;
+    let cursor = read.cursor;
+    ended(text, cursor, Line::Picture(trial))
+}
+
 // A line by the number of its first word; `next` stands past the word, `unread` at it.
 fn opened(text: &[u8], number: usize, next: Cursor, unread: Cursor) -> Line
     ensures { λ r. ⌜ r ≡ getD (meanings (openings (now (text .entry)) next)) number (lostAt unread) ⌝ }
@@ -96,6 +146,10 @@ fn opened(text: &[u8], number: usize, next: Cursor, unread: Cursor) -> Line
         2 => one_sheet(text, next),
         3 => one_layout(text, next),
         4 => ended(text, next, Line::Fresh),
+        5 => run_settings(text, next),
+        6 => one_rail(text, next),
+        7 => one_run(text, next),
+        8 => one_picture(text, next),
         _ => lost(unread),
     }
 }
@@ -110,7 +164,10 @@ fn content(text: &[u8]) -> Line
     if start == text.len() {
         return Line::Blank;
     }
-    let number = keywords::which(&text[start..end], b"word\ntick\nsheet\nlayout\nfresh\n");
+    let number = keywords::which(
+        &text[start..end],
+        b"word\ntick\nsheet\nlayout\nfresh\nsettings\nrail\nrun\npicture\n",
+    );
     let cursor = Cursor::start();
     let next = cursor.accept(word);
     let unread = cursor.refuse(word, Expected::Keyword);

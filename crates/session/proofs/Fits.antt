@@ -18,57 +18,28 @@ use Rattle.answers.specs.declared.Answer.{Answer}
 use Rattle.words.specs.Encode.{wordsOf}
 use Rattle.words.proofs.Words.{words-size}
 use Rattle.writer.specs.Write.{needed, bufferTooShort, writeVerdict, bufferAfter, written}
+use Rattle.simulator.specs.declared.Outcome.{Outcome}
+use Rattle.simulator.specs.declared.Stop.{Stop}
+use Rattle.simulator.specs.declared.Trace.{Trace}
+use Rattle.simulator.specs.declared.Stop.the-variants as stop
+use Rattle.carriage.specs.declared.Rail.{Rail}
+use Rattle.drawing.proofs.Fits.{picture-bounded}
 use Rattle.sheets.specs.declared.Writing.{Writing}
-use Rattle.numerals.specs.Writing.{glyph, digits, hexadecimal, decimal, whole}
+use Rattle.numerals.specs.Writing.{hexadecimal}
+use Rattle.numerals.proofs.Short.{Short, is, both, all, either, within, digits-short, decimal-short, whole-short}
 use Rattle.tokens.specs.Ascii.{ascii}
-use Rattle.printer.specs.Texts.{tradeWord, wordText, motionText, tickText, wordsText}
+use Rattle.printer.specs.Texts.{tradeWord, wordText, motionText, tickText, wordsText, stopWord, runText}
 use Rattle.complaints.specs.Texts.{expectedText, lineAndColumnText}
 use Rattle.cursors.specs.declared.Expected.{Expected}
 use Rattle.cursors.specs.declared.Expected.the-variants.{Keyword, Digits, Whole, Float, Command, At, Switches, Standstill, Set, End}
 use Rattle.lent.specs.Lent.{lentOf, writtenText}
-use Rattle.lines.specs.declared.Line.the-variants.{Blank, Fresh, Word, Tick, Sheet, Layout, Unreadable}
+use Rattle.lines.specs.declared.Line.the-variants as line
 use Rattle.rules.specs.Word.{wordOf}
 use Rattle.rules.specs.Tick.{tickOf}
-use Rattle.session.specs.Answering.{Fits, LongFits}
-
-record Short (n : ℕ) (xs : List ℕ) : Type 0 where
-  short : length xs ≤ n
-
-is : {n : ℕ} {xs : List ℕ} → length xs ≤ n → Short n xs
-is h = record { short = h }
-
-both : {m n : ℕ} {xs ys : List ℕ} → Short m xs → Short n ys → Short (m + n) (xs ++ ys)
-both {xs = xs} {ys = ys} h k = is (omega (arith, length-append xs ys, h .short, k .short))
-
-all : (xs : List ℕ) → Short (length xs) xs
-all xs = is (omega arith)
-
-either : {n : ℕ} (t : Bool) {xs ys : List ℕ} → Short n xs → Short n ys → Short n (cond t xs ys)
-either true h k = h
-either false h k = k
-
-within : {m n : ℕ} {xs : List ℕ} → Short m xs → m ≤ n → Short n xs
-within h k = is (omega (arith, h .short, k))
-
--- ---- numbers
-
-digits-short : (base : ℕ) (zeros : Bool) (places n : ℕ) → Short places (digits base zeros places n)
-unfolding digits
-digits-short base zeros zero n = is (omega arith)
-digits-short base zeros (suc places) n =
-    within (both (either (zeros || leb base n) (digits-short base zeros places (n / base)) (is (omega arith))) (all (glyph (n % base) ∷ []))) (omega arith)
+use Rattle.session.specs.Answering.{outcomeOf, traceIn, drawnText, Fits, LongFits}
 
 hexadecimal-short : (places n : ℕ) → Short places (hexadecimal places n)
 hexadecimal-short places n = digits-short 16 true places n
-
-decimal-short : (n : ℕ) → Short 20 (decimal n)
-decimal-short n = digits-short 10 false 20 n
-
-whole-short : (z : ℤ) → Short 21 (whole z)
-whole-short (pos n) = within (decimal-short n) (omega arith)
-whole-short (negsuc n) = is (omega (arith, decimal-short (suc n) .short))
-
--- ---- texts
 
 trade-short : (n : ℕ) → Short 21 (tradeWord n)
 trade-short n =
@@ -78,12 +49,12 @@ trade-short n =
     (either (eqb n 3) (is (omega arith))
     (either (eqb n 4) (is (omega arith))
     (either (eqb n 5) (is (omega arith))
-    (either (eqb n 6) (is (omega arith)) (either (eqb n 7) (is (omega arith)) (either (eqb n 8) (is (omega arith)) (either (eqb n 9) (is (omega arith)) (either (eqb n 10) (is (omega arith)) (is (omega arith))))))))))))
+    (either (eqb n 6) (is (omega arith)) (either (eqb n 7) (is (omega arith)) (either (eqb n 8) (is (omega arith)) (either (eqb n 9) (is (omega arith)) (either (eqb n 10) (is (omega arith)) (either (eqb n 11) (is (omega arith)) (is (omega arith)))))))))))))
 
-word-short : (n : ℕ) → Short 512 (wordText n)
+word-short : (n : ℕ) → Short 1024 (wordText n)
 word-short n = within (both (both (all (ascii "word ")) (decimal-short n)) (trade-short n)) (omega arith)
 
-tick-short : (a : Answer) → Short 512 (tickText a)
+tick-short : (a : Answer) → Short 1024 (tickText a)
 unfolding motionText tickText
 tick-short a =
     within
@@ -121,12 +92,27 @@ kept layout s buffer = go (not (isLayout layout)) (bufferTooShort layout buffer)
     go false true d e = rw (d, e)
     go false false d e = filled (writeVerdict layout s buffer) (ltb-false (length buffer) (needed layout) e)
 
-written-short : (name : List ℕ) (w : Writing) → Short 7 name → Short 512 (writtenText name w)
+written-short : (name : List ℕ) (w : Writing) → Short 7 name → Short 1024 (writtenText name w)
 written-short name w h =
     let n = verdictNumber (writeVerdict (w .layout) (w .settings) (lentOf w)) in
     let ws = written (w .layout) (w .settings) (lentOf w) in
     within (both (both (both h (decimal-short n)) (words-short ws)) (trade-short n))
     (omega (arith, kept (w .layout) (w .settings) (lentOf w), length-replicate {A = ℕ} (min (w .length) 32) 0xDEADBEEF))
+
+stop-short : (s : Stop) → Short 5 (stopWord s)
+stop-short stop.None = is (omega arith)
+stop-short stop.Homed = is (omega arith)
+stop-short stop.Failed = is (omega arith)
+stop-short stop.Ticks = is (omega arith)
+
+run-short : (name : List ℕ) (o : Outcome) → Short 8 name → Short 87 (runText name o)
+run-short name o h =
+    within
+    (both (both (both (both (both h (decimal-short (o .number))) (both (all (ascii " ticks ")) (decimal-short (o .ticks)))) (all (ascii " stop "))) (stop-short (o .stop))) (trade-short (o .number)))
+    (omega arith)
+
+drawn-short : (r : Rail) (start : ℤ) (t : Trace) → Short 637 (drawnText r start t)
+drawn-short r start t = either (eqb (t .outcome .number) 0) (is (picture-bounded r start t)) (is (omega arith))
 
 line-and-column-short : (line column : ℕ) → Short 52 (lineAndColumnText line column)
 line-and-column-short line column =
@@ -145,13 +131,18 @@ expected-short Set = is (omega arith)
 expected-short End = is (omega arith)
 
 pub long-fits : LongFits
-long-fits line = within {n = 512} (both (line-and-column-short line 256) (all (ascii " line too long\n"))) (omega arith) .short
+long-fits line = within {n = 1024} (both (line-and-column-short line 256) (all (ascii " line too long\n"))) (omega arith) .short
 
 pub fits : Fits
-fits s Blank = omega arith
-fits s Fresh = omega arith
-fits s (Word w) = word-short (verdictNumber (wordOf (s .axis) w .verdict)) .short
-fits s (Tick t) = tick-short (tickOf (s .axis) t .answer) .short
-fits s (Sheet w) = written-short (ascii "sheet ") w (is (omega arith)) .short
-fits s (Layout w) = written-short (ascii "layout ") w (is (omega arith)) .short
-fits s (Unreadable t) = within {n = 512} (both (line-and-column-short (s .lines) (t .column)) (expected-short (t .expected))) (omega arith) .short
+fits s line.Blank = omega arith
+fits s line.Fresh = omega arith
+fits s (line.Word w) = word-short (verdictNumber (wordOf (s .axis) w .verdict)) .short
+fits s (line.Tick t) = tick-short (tickOf (s .axis) t .answer) .short
+fits s (line.Sheet w) = written-short (ascii "sheet ") w (is (omega arith)) .short
+fits s (line.Layout w) = written-short (ascii "layout ") w (is (omega arith)) .short
+fits s (line.Settings x) = omega arith
+fits s (line.Rail r) = omega arith
+fits s (line.Run t) = within {n = 1024} (run-short (ascii "run ") (outcomeOf s t) (is (omega arith))) (omega arith) .short
+fits s (line.Picture t) =
+    within {n = 1024} (both (run-short (ascii "picture ") (traceIn s t .outcome) (is (omega arith))) (drawn-short (s .rail) (t .start) (traceIn s t))) (omega arith) .short
+fits s (line.Unreadable t) = within {n = 1024} (both (line-and-column-short (s .lines) (t .column)) (expected-short (t .expected))) (omega arith) .short

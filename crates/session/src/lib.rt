@@ -1,15 +1,23 @@
-// The axis that the lines speak to, and the answer to each line.
+// The axis that the lines speak to, the settings and the rail of later runs, and the answer to each line.
+use carriage::Rail;
 use cells::Lent;
 use lines::Line;
+use lines::Trial;
+use settings::Settings;
+use simulator::Trace;
 use ticks::Tick;
 ghost use mathlib.Core.Path.{_≡_};
 ghost use Rattle.lines.specs.Lines.{lineOf};
 ghost use Rattle.complaints.specs.Texts.{longText};
-ghost use Rattle.session.specs.Answering.{meant, freshConversation, counted, conversationAfter, textOf, Answers};
+ghost use Rattle.page.specs.Page.{Printed};
+ghost use Rattle.session.specs.Answering.{meant, zeroSettings, zeroRail, freshConversation, counted, drawnText, conversationAfter, textOf, Answers};
 
 pub struct Session {
     // The axis's words.
     pub axis: Lent,
+    // Of later runs.
+    pub settings: Settings,
+    pub rail: Rail,
     // Lines so far.
     pub lines: u64,
 }
@@ -20,13 +28,65 @@ pub struct Turn {
     pub length: usize,
 }
 
+fn zero_settings() -> Settings
+    ensures { λ r. ⌜ r ≡ zeroSettings ⌝ }
+{
+    Settings {
+        method: 0,
+        fast: 0,
+        slow: 0,
+        offset: 0,
+        numerator: 0,
+        denominator: 0,
+        lower: 0,
+        upper: 0,
+        maximum: 0,
+        positive1: 0,
+        negative1: 0,
+        positive2: 0,
+        negative2: 0,
+        option: 0,
+        rated: 0,
+        homing: 0,
+    }
+}
+
+fn zero_rail() -> Rail
+    ensures { λ r. ⌜ r ≡ zeroRail ⌝ }
+{
+    Rail {
+        length: 0,
+        cam: 0,
+        width: 0,
+        fast: 0,
+        slow: 0,
+    }
+}
+
+// The picture of a run that is not refused.
+fn drawn(out: &mut [u8], at: usize, rail: Rail, start: i32, trace: Trace) -> usize
+    ensures { λ r. ⌜ Printed (now (out .entry)) at (drawnText rail start trace) (now (out .exit)) r ⌝ }
+{
+    let outcome = trace.outcome;
+    if outcome.number == 0 {
+        drawing::picture(out, at, rail, start, trace)
+    } else {
+        at
+    }
+}
+
 impl Session {
     pub fn fresh() -> Session
         ensures { λ r. ⌜ meant r ≡ freshConversation ⌝ }
     {
         let mut axis: Lent = [0; 39];
         axis::fresh(&mut axis);
-        Session { axis, lines: 0 }
+        Session {
+            axis,
+            settings: zero_settings(),
+            rail: zero_rail(),
+            lines: 0,
+        }
     }
 
     fn count_line(mut self) -> Session
@@ -52,6 +112,30 @@ impl Session {
     {
         let answer = axis::tick(&mut self.axis, tick);
         let length = printer::tick(out, answer);
+        Turn {
+            session: self,
+            length,
+        }
+    }
+
+    fn run(self, trial: Trial, out: &mut [u8]) -> Turn
+        ensures { λ r. ⌜ Answers (now (out .entry)) (now (out .exit)) r (conversationAfter (meant self) (Line.Run trial)) (textOf (meant self) (Line.Run trial)) ⌝ }
+    {
+        let outcome = simulator::run(self.rail, self.settings, trial.start, trial.ticks);
+        let length = printer::run(out, b"run ", outcome);
+        Turn {
+            session: self,
+            length,
+        }
+    }
+
+    fn picture(self, trial: Trial, out: &mut [u8]) -> Turn
+        ensures { λ r. ⌜ Answers (now (out .entry)) (now (out .exit)) r (conversationAfter (meant self) (Line.Picture trial)) (textOf (meant self) (Line.Picture trial)) ⌝ }
+    {
+        let trace = simulator::follow(self.rail, self.settings, trial.start, trial.ticks);
+        let outcome = trace.outcome;
+        let at = printer::run(out, b"picture ", outcome);
+        let length = drawn(out, at, self.rail, trial.start, trace);
         Turn {
             session: self,
             length,
@@ -90,6 +174,24 @@ impl Session {
                     length,
                 }
             }
+            Line::Settings(settings) => {
+                self.settings = settings;
+                let length = printer::settings(out);
+                Turn {
+                    session: self,
+                    length,
+                }
+            }
+            Line::Rail(rail) => {
+                self.rail = rail;
+                let length = printer::rail(out);
+                Turn {
+                    session: self,
+                    length,
+                }
+            }
+            Line::Run(trial) => self.run(trial, out),
+            Line::Picture(trial) => self.picture(trial, out),
             Line::Unreadable(trouble) => {
                 let length = complaints::unreadable(out, self.lines, trouble);
                 Turn {

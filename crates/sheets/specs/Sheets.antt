@@ -1,27 +1,20 @@
--- docs/LINES.md: "sheet LENGTH METHOD FAST SLOW OFFSET NUM DEN LOWER UPPER MAX P1 N1 P2 N2 OPTION RATED", and `layout`, with LAYOUT before
--- LENGTH and HOMING, where it has one, after RATED; "OFFSET, LOWER and UPPER are I32"
+-- docs/LINES.md: "settings METHOD FAST SLOW OFFSET NUM DEN LOWER UPPER MAX P1 N1 P2 N2 OPTION RATED [HOMING]"; `sheet`, with LENGTH before
+-- METHOD and no HOMING; and `layout`, with LAYOUT and LENGTH before METHOD; "OFFSET, LOWER, UPPER [...] are I32"
 -- Assumes nothing.
-use Prim.Native.Nat.{ℕ, _^_}
+use Prim.Native.Nat.{ℕ}
 use mathlib.Core.Bool.{Bool, true, false, cond, not, _&&_}
 use mathlib.Core.List.{List}
-use Rattle.numerals.specs.Signs.{signedWhole}
-use Rattle.numerals.specs.Limits.{unsigned32Of, lengthOf}
+use Rattle.numerals.specs.Limits.{lengthOf}
 use Rattle.cursors.specs.Cursor.{atEnd}
 use Rattle.cursors.specs.declared.Cursor.{Cursor}
 use Rattle.cursors.specs.declared.Expected.the-variants as expected
 use Rattle.scanner.specs.declared.NumberRead.{NumberRead}
-use Rattle.scanner.specs.declared.WholeRead.{WholeRead}
-use Rattle.scanner.specs.Readings.{numberAt, wholeAt}
+use Rattle.scanner.specs.Readings.{numberAt, unsignedAt, whole32At}
 use Rattle.sheets.specs.declared.HomingRead.{HomingRead}
 use Rattle.sheets.specs.declared.TravelRead.{TravelRead}
 use Rattle.sheets.specs.declared.TorquesRead.{TorquesRead}
+use Rattle.sheets.specs.declared.SettingsRead.{SettingsRead}
 use Rattle.sheets.specs.declared.WritingRead.{WritingRead}
-
-abbrev unsignedAt : List ℕ → Cursor → NumberRead
-unsignedAt text c = numberAt unsigned32Of expected.Whole text c
-
-abbrev whole32At : List ℕ → Cursor → WholeRead
-whole32At text c = wholeAt (signedWhole (2 ^ 31)) text c
 
 unfoldable pub homingRead : List ℕ → Cursor → HomingRead
 homingRead text c =
@@ -55,40 +48,40 @@ unfoldable pub homingTorqueRead : Bool → ℕ → List ℕ → Cursor → Numbe
 homingTorqueRead allowed maximum text c = cond (allowed && not (atEnd text c)) (unsignedAt text c) (record { value = maximum; cursor = c })
 
 -- `allowed`: the line may have HOMING
-unfoldable pub fieldsRead : Bool → ℕ → List ℕ → Cursor → WritingRead
-fieldsRead allowed layout text c =
-    let length = numberAt lengthOf expected.Whole text c in
-    let homing = homingRead text (length .cursor) in
+unfoldable pub settingsRead : Bool → List ℕ → Cursor → SettingsRead
+settingsRead allowed text c =
+    let homing = homingRead text c in
     let travel = travelRead text (homing .cursor) in
     let torques = torquesRead text (travel .cursor) in
     let homingTorque = homingTorqueRead allowed (torques .maximum) text (torques .cursor) in
     record {
-      writing =
+      settings =
           record {
-            layout = layout;
-            length = length .value;
-            settings =
-                record {
-                  method = homing .method;
-                  fast = homing .fast;
-                  slow = homing .slow;
-                  offset = homing .offset;
-                  numerator = travel .numerator;
-                  denominator = travel .denominator;
-                  lower = travel .lower;
-                  upper = travel .upper;
-                  maximum = torques .maximum;
-                  positive1 = torques .positive1;
-                  negative1 = torques .negative1;
-                  positive2 = torques .positive2;
-                  negative2 = torques .negative2;
-                  option = torques .option;
-                  rated = torques .rated;
-                  homing = homingTorque .value;
-                };
+            method = homing .method;
+            fast = homing .fast;
+            slow = homing .slow;
+            offset = homing .offset;
+            numerator = travel .numerator;
+            denominator = travel .denominator;
+            lower = travel .lower;
+            upper = travel .upper;
+            maximum = torques .maximum;
+            positive1 = torques .positive1;
+            negative1 = torques .negative1;
+            positive2 = torques .positive2;
+            negative2 = torques .negative2;
+            option = torques .option;
+            rated = torques .rated;
+            homing = homingTorque .value;
           };
       cursor = homingTorque .cursor;
     }
+
+unfoldable pub fieldsRead : Bool → ℕ → List ℕ → Cursor → WritingRead
+fieldsRead allowed layout text c =
+    let length = numberAt lengthOf expected.Whole text c in
+    let read = settingsRead allowed text (length .cursor) in
+    record { writing = record { layout = layout; length = length .value; settings = read .settings }; cursor = read .cursor }
 
 -- 02, (iv): the writer "is told the layout"; "`sheet` writes layout 1, its homing torque is MAX"
 abbrev pub sheetRead : List ℕ → Cursor → WritingRead

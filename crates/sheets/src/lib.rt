@@ -1,10 +1,11 @@
-// The words after `sheet`: LENGTH METHOD FAST SLOW OFFSET NUM DEN LOWER UPPER MAX P1 N1 P2 N2 OPTION RATED. After `layout` LAYOUT comes first, and
-// HOMING may come last.
+// The words after `settings`: METHOD FAST SLOW OFFSET NUM DEN LOWER UPPER MAX P1 N1 P2 N2 OPTION RATED [HOMING]. After `sheet` LENGTH comes first, and
+// there is no HOMING; after `layout` LAYOUT and LENGTH come first.
 use cursors::Cursor;
 use scanner::NumberRead;
 use settings::Settings;
 ghost use mathlib.Core.Path.{_≡_};
-ghost use Rattle.sheets.specs.Sheets.{homingRead, travelRead, torquesRead, homingTorqueRead, fieldsRead, sheetRead, layoutRead};
+ghost use mathlib.Core.Bool.{true};
+ghost use Rattle.sheets.specs.Sheets.{homingRead, travelRead, torquesRead, homingTorqueRead, settingsRead, fieldsRead, sheetRead, layoutRead};
 
 // Settings to be written in a layout, known or not, to a buffer of `length` words.
 pub struct Writing {
@@ -15,6 +16,11 @@ pub struct Writing {
 
 pub struct WritingRead {
     pub writing: Writing,
+    pub cursor: Cursor,
+}
+
+pub struct SettingsRead {
+    pub settings: Settings,
     pub cursor: Cursor,
 }
 
@@ -132,12 +138,10 @@ fn homing_torque(allowed: bool, maximum: u32, text: &[u8], cursor: Cursor) -> Nu
     }
 }
 
-// LENGTH METHOD .. RATED, and HOMING on a line that is allowed it.
-fn fields(allowed: bool, layout: u32, text: &[u8], cursor: Cursor) -> WritingRead
-    ensures { λ r. ⌜ r ≡ fieldsRead allowed layout (now (text .entry)) cursor ⌝ }
+// METHOD .. RATED, and HOMING on a line that is allowed it.
+fn settings_words(allowed: bool, text: &[u8], cursor: Cursor) -> SettingsRead
+    ensures { λ r. ⌜ r ≡ settingsRead allowed (now (text .entry)) cursor ⌝ }
 {
-    let length = scanner::length(text, cursor);
-    let cursor = length.cursor;
     let homing = homing(text, cursor);
     let cursor = homing.cursor;
     let travel = travel(text, cursor);
@@ -146,31 +150,53 @@ fn fields(allowed: bool, layout: u32, text: &[u8], cursor: Cursor) -> WritingRea
     let cursor = torques.cursor;
     let homing_torque = homing_torque(allowed, torques.maximum, text, cursor);
     let cursor = homing_torque.cursor;
+    SettingsRead {
+        settings: Settings {
+            method: homing.method,
+            fast: homing.fast,
+            slow: homing.slow,
+            offset: homing.offset,
+            numerator: travel.numerator,
+            denominator: travel.denominator,
+            lower: travel.lower,
+            upper: travel.upper,
+            maximum: torques.maximum,
+            positive1: torques.positive1,
+            negative1: torques.negative1,
+            positive2: torques.positive2,
+            negative2: torques.negative2,
+            option: torques.option,
+            rated: torques.rated,
+            homing: homing_torque.value,
+        },
+        cursor,
+    }
+}
+
+// LENGTH, and the settings.
+fn fields(allowed: bool, layout: u32, text: &[u8], cursor: Cursor) -> WritingRead
+    ensures { λ r. ⌜ r ≡ fieldsRead allowed layout (now (text .entry)) cursor ⌝ }
+{
+    let length = scanner::length(text, cursor);
+    let cursor = length.cursor;
+    let read = settings_words(allowed, text, cursor);
+    let settings = read.settings;
+    let cursor = read.cursor;
     WritingRead {
         writing: Writing {
             layout,
             length: length.value,
-            settings: Settings {
-                method: homing.method,
-                fast: homing.fast,
-                slow: homing.slow,
-                offset: homing.offset,
-                numerator: travel.numerator,
-                denominator: travel.denominator,
-                lower: travel.lower,
-                upper: travel.upper,
-                maximum: torques.maximum,
-                positive1: torques.positive1,
-                negative1: torques.negative1,
-                positive2: torques.positive2,
-                negative2: torques.negative2,
-                option: torques.option,
-                rated: torques.rated,
-                homing: homing_torque.value,
-            },
+            settings,
         },
         cursor,
     }
+}
+
+// Settings that are written nowhere: HOMING may come last.
+pub fn settings(text: &[u8], cursor: Cursor) -> SettingsRead
+    ensures { λ r. ⌜ r ≡ settingsRead true (now (text .entry)) cursor ⌝ }
+{
+    settings_words(true, text, cursor)
 }
 
 // A sheet line writes layout 1, and has no HOMING.

@@ -1,5 +1,5 @@
-//! `coverage`: reads a script on standard input and prints how often each thing worth reaching happened. Exits with 1 where
-//! something never did.
+//! `coverage [rails]`: reads a script on standard input and prints how often each thing worth reaching happened, by the axis
+//! and the writer or by runs on paper rails. Exits with 1 where something never did.
 
 use std::io::{self, BufRead};
 use std::process::ExitCode;
@@ -14,7 +14,8 @@ fn main() -> io::Result<ExitCode> {
         tally.line(&raw);
         raw.clear();
     }
-    let table = tally.table();
+    let rails = std::env::args().nth(1).is_some_and(|argument| argument == "rails");
+    let table = if rails { tally.rails_table() } else { tally.table() };
     for (name, count) in &table {
         println!("{count:8}  {name}");
     }

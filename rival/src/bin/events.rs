@@ -1,5 +1,5 @@
 //! `events`: reads a script on standard input and prints its events as `c/replay.c` reads them: a keyword, and 32-bit words in
-//! hexadecimal. A line that is blank or cannot be read is no event.
+//! hexadecimal. A line that is blank, cannot be read or is about runs is no event.
 
 use std::io::{self, BufWriter, Write};
 
@@ -50,7 +50,7 @@ fn main() -> io::Result<()> {
             Ok(Line::Layout { layout, length, settings }) => {
                 ("layout", [&[layout, length as u32], &fields(&settings)[..]].concat())
             }
-            Ok(Line::Blank) | Err(_) => continue,
+            Ok(Line::Blank | Line::Settings(_) | Line::Rail(_) | Line::Run(_) | Line::Picture(_)) | Err(_) => continue,
         };
         write!(output, "{keyword}")?;
         for word in words {

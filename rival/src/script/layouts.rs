@@ -146,7 +146,7 @@ impl<W: Write> Script<W> {
     }
 
     /// One field outside its range.
-    fn leave_range(&mut self, s: &mut Settings) {
+    pub(super) fn leave_range(&mut self, s: &mut Settings) {
         match self.random.between(0, 5) {
             0 => s.method = 36,
             1 => s.fast = 1 << 28,

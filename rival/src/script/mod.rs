@@ -4,6 +4,7 @@ mod gears;
 mod homing;
 mod homing_torque;
 mod layouts;
+mod rails;
 mod rehearsals;
 mod sheets;
 mod states;
@@ -180,7 +181,11 @@ impl<W: Write> Script<W> {
             }
             self.mutating = !self.mutating;
         }
-        // "A line ends with LF or with the end of the input": the last one has no LF.
+        self.end()
+    }
+
+    /// "A line ends with LF or with the end of the input": the last one has no LF.
+    fn end(mut self) -> io::Result<()> {
         let last = self.now.line();
         self.emit(last.as_bytes(), b"");
         self.output.flush()?;

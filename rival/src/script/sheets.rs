@@ -190,13 +190,18 @@ impl<W: Write> Script<W> {
         self.line(&format!("sheet {length} {}", values_of(settings)));
     }
 
-    /// A homing torque that is the maximum may be left out.
     pub(super) fn layout_line(&mut self, layout: u32, length: i64, settings: &Settings) {
-        let mut line = format!("layout {layout} {length} {}", values_of(settings));
+        let fields = self.fields_of(settings);
+        self.line(&format!("layout {layout} {length} {fields}"));
+    }
+
+    /// A homing torque that is the maximum may be left out.
+    pub(super) fn fields_of(&mut self, settings: &Settings) -> String {
+        let mut fields = values_of(settings);
         if settings.homing_torque != settings.maximum_torque || self.random.once_in(2) {
-            line += &format!(" {}", settings.homing_torque);
+            fields += &format!(" {}", settings.homing_torque);
         }
-        self.line(&line);
+        fields
     }
 
     /// By either line where layout 1 is asked.

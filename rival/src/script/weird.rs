@@ -97,21 +97,21 @@ impl<W: Write> Script<W> {
         dressed
     }
 
-    fn wrong_word(&mut self, line: &str, place: usize, wrong: &str) {
+    pub(super) fn wrong_word(&mut self, line: &str, place: usize, wrong: &str) {
         let words: Vec<&str> = line.split(' ').enumerate().map(|(at, word)| if at == place { wrong } else { word }).collect();
         // The micro sign stands for a byte that is no text at all.
         let bytes: Vec<u8> = words.join(" ").chars().map(|character| character as u8).collect();
         self.emit(&bytes, b"\n");
     }
 
-    fn cut_short(&mut self, line: &str, words: usize) {
+    pub(super) fn cut_short(&mut self, line: &str, words: usize) {
         let kept: Vec<&str> = line.split(' ').take(words).collect();
         let tail = self.random.pick(&["", "", " ", "   ", "#", " # the rest is missing", "\t"]);
         let end: &[u8] = if self.random.once_in(4) { b"\r\n" } else { b"\n" };
         self.emit(format!("{}{tail}", kept.join(" ")).as_bytes(), end);
     }
 
-    fn one_too_many(&mut self, line: &str) {
+    pub(super) fn one_too_many(&mut self, line: &str) {
         let extra = self.random.pick(&[" 0", "  end", "\tx # y", " tick", " \u{1}"]);
         self.emit(format!("{line}{extra}").as_bytes(), b"\n");
     }

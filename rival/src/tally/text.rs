@@ -84,6 +84,7 @@ impl Tally {
                 self.saw(&format!("unreadable: {what}, {how}"));
                 self.saw_unreadable_layout(before, unreadable);
                 self.saw_unreadable_sheet(before, *column);
+                self.saw_unreadable_rails(before, *column);
             }
             Ok(_) => {}
         }

@@ -6,7 +6,7 @@ use crate::command::{Command, HOMING_MODE};
 use crate::control_word::{ControlWord, FAULT_RESET, HALT, HOMING_START};
 use crate::drive_state::DriveState::{self, *};
 use crate::gear;
-use crate::homing::{decider, Event, Homing, Leg, Moment, Way, ON_LIMITS};
+use crate::homing::{decider, Event, Homing, Leg, Way, ON_LIMITS};
 use crate::hybrid::Hybrid;
 use crate::sheet::{LimitSet, Sheet};
 use crate::tick::{Answer, Switch, Tick};
@@ -18,21 +18,16 @@ struct Before {
     alarm: u32,
     homing: Homing,
     remembered: ControlWord,
-    /// Since the homing start: the latest tick that was not halted, or the start, and the halted ones after it.
-    recent: Vec<Moment>,
 }
 
 impl Before {
     fn of(axis: &Axis) -> Before {
-        let ticks = axis.since_start();
-        let latest = ticks.iter().rposition(|tick| !tick.control.has(HALT)).unwrap_or(0);
         Before {
             state: axis.state(),
             mode: axis.shown_mode(),
             alarm: axis.alarm_number(),
             homing: axis.homing(),
             remembered: axis.remembered(),
-            recent: ticks[latest..].to_vec(),
         }
     }
 }
@@ -77,6 +72,10 @@ impl Tally {
         self.rehearsal_tick(tick, &answer, before.mode);
         self.switches = tick.switches;
         self.stretch = self.stretch_after(tick, &before);
+        if self.starts(tick, &before) || !tick.control.has(HALT) {
+            self.recent.clear();
+        }
+        self.recent.push(*tick);
         self.taken_over = false;
         if let Command::Hybrid(hybrid) = tick.command {
             self.saw_hybrid(tick, &hybrid, &sheet, &before);
@@ -151,6 +150,11 @@ impl Tally {
         self.saw_if(resets_nothing, "takeover, then bit 7 held resets nothing");
     }
 
+    fn starts(&self, tick: &Tick, before: &Before) -> bool {
+        let homing = matches!(tick.command, Command::Homing { .. }) && self.matched(tick);
+        tick.control.rises(HOMING_START, before.remembered) && homing && self.axis.state() == OperationEnabled
+    }
+
     fn saw_start(&mut self, tick: &Tick, before: &Before) {
         let homing = matches!(tick.command, Command::Homing { .. });
         let enabled = self.axis.state() == OperationEnabled;
@@ -160,7 +164,7 @@ impl Tally {
         let held = tick.control.has(HOMING_START) && !rises;
         let idle = !matches!(before.homing, Homing::Runs { .. });
         self.saw_if(held && idle && homing && enabled && self.matched(tick), "no start: bit 4 held");
-        if rises && homing && enabled && self.matched(tick) {
+        if self.starts(tick, before) {
             self.saw_if(before.state == SwitchedOn, "start in the tick that enables");
             self.saw_if(tick.control.has(HALT), "start halted");
             self.saw_if(self.switches != tick.switches, "start as a switch turns");
@@ -193,7 +197,7 @@ impl Tally {
 
     /// A tick while homing ran before it.
     fn saw_homing(&mut self, tick: &Tick, before: &Before) {
-        let (Homing::Runs { leg, way, place }, Some(&last)) = (before.homing, before.recent.last()) else {
+        let (Homing::Runs { leg, way, place }, Some(&last)) = (before.homing, self.recent.last()) else {
             if let (Homing::Homed { .. }, Homing::Homed { .. }) = (before.homing, self.axis.homing()) {
                 self.saw_if(self.axis.state() == Fault, "homed stays in fault");
                 self.saw_if(!tick.control.has(HOMING_START), "homed stays with bit 4 clear");
@@ -228,7 +232,7 @@ impl Tally {
     }
 
     /// Switches that turn in a leg, whether they count or not.
-    fn saw_counting(&mut self, tick: &Tick, before: &Before, method: u32, leg: Leg, last: &Moment) {
+    fn saw_counting(&mut self, tick: &Tick, before: &Before, method: u32, leg: Leg, last: &Tick) {
         let turned = |switch, level| tick.switches.turned(&last.switches, switch, level);
         let (switch, level) = leg.awaits();
         let event = leg.2 != Event::LimitOn && turned(switch, level);
@@ -263,9 +267,9 @@ impl Tally {
     }
 
     /// What the limits do in a tick that is not halted.
-    fn saw_limit(&mut self, tick: &Tick, before: &Before, (method, way, place): (u32, Way, usize), leg: Leg, last: &Moment) {
+    fn saw_limit(&mut self, tick: &Tick, before: &Before, (method, way, place): (u32, Way, usize), leg: Leg, last: &Tick) {
         let (limit, after) = (leg.limit(), self.axis.homing());
-        let was_on = |moment: &Moment| moment.switches.on(limit);
+        let was_on = |tick: &Tick| tick.switches.on(limit);
         let on = tick.switches.on(limit);
         let stays = after == before.homing;
         let fails = after == Homing::Error;
@@ -273,8 +277,8 @@ impl Tally {
         let ends = !stays && !fails && !turns && after != Homing::Idle;
 
         // The leg's first tick that is not halted: nothing could count since the one in which it began.
-        if !self.stretch.tried && before.recent.first().is_some_and(was_on) {
-            let held = on && before.recent.iter().all(was_on);
+        if !self.stretch.tried && self.recent.first().is_some_and(was_on) {
+            let held = on && self.recent.iter().all(was_on);
             self.saw_if(held && turns, &format!("method {method} begins on the limit: turns"));
             self.saw_if(held && fails, &format!("method {method} {way:?}, leg {} begins on the limit: error", place + 1));
             if held && ends {
@@ -291,7 +295,7 @@ impl Tally {
             self.saw_if(!on && stays, &format!("limit on in {begins}, off in the next"));
         }
 
-        let came = before.recent.windows(2).any(|pair| pair[1].switches.turned(&pair[0].switches, limit, true));
+        let came = self.recent.windows(2).any(|pair| pair[1].switches.turned(&pair[0].switches, limit, true));
         if came && was_on(last) {
             self.saw_if(on && turns, "limit on since halt: turns");
             self.saw_if(on && fails, "limit on since halt: error");

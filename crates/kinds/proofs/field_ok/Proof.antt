@@ -4,7 +4,7 @@ use Prim.Native.Nat.{ℕ, _≤_}
 use mathlib.Core.Path.{_≡_, ap, sym}
 use mathlib.Core.Bool.{Bool, false}
 use lib.ListN.{List·getD-eq-default}
-use Rattle.kinds.proofs.Match.{Avoids, avoided}
+use Rattle.counts.proofs.Match.{Avoids, avoided}
 use Rattle.kinds.specs.Fields.{fields, fieldOk}
 use borrow.Author.Needs.{needs}
 use Rattle.kinds.proofs.field_ok.Statement.{statement}

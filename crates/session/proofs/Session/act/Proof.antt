@@ -52,6 +52,30 @@ write-requires-2 c κs = search needs
 enum-known-line-5 : tie.Need-enum-known-line-5
 enum-known-line-5 c = search needs
 
+settings-requires : tie.Need-settings-requires
+settings-requires c κs = search needs
+
+enum-known-line-6 : tie.Need-enum-known-line-6
+enum-known-line-6 c = search needs
+
+rail-requires : tie.Need-rail-requires
+rail-requires c κs = search needs
+
+enum-known-line-7 : tie.Need-enum-known-line-7
+enum-known-line-7 c = search needs
+
+run-requires : tie.Need-run-requires
+run-requires c κs = search needs
+
+enum-known-line-8 : tie.Need-enum-known-line-8
+enum-known-line-8 c = search needs
+
+picture-requires : tie.Need-picture-requires
+picture-requires c κs = search needs
+
+enum-known-line-9 : tie.Need-enum-known-line-9
+enum-known-line-9 c = search needs
+
 unreadable-requires : tie.Need-unreadable-requires
 unreadable-requires c κs = search needs
 
@@ -94,7 +118,31 @@ same-length-6 : tie.Need-same-length-6
 same-length-6 c = search needs
 
 returns-7 : tie.Need-returns-7
-returns-7 c = let e = c .before .before .before .before .before .line5 .given .1 in (rw e, printed-as (rw e) (c .before .before .unreadable .ensures))
+returns-7 c = let e = c .before .before .before .before .before .line5 .given .1 in (rw e, printed-as (rw e) (c .before .before .settings .ensures))
+
+same-length-7 : tie.Need-same-length-7
+same-length-7 c = search needs
+
+returns-8 : tie.Need-returns-8
+returns-8 c = let e = c .before .before .before .before .before .line6 .given .1 in (rw e, printed-as (rw e) (c .before .before .rail .ensures))
+
+same-length-8 : tie.Need-same-length-8
+same-length-8 c = search needs
+
+returns-9 : tie.Need-returns-9
+returns-9 c = let e = c .before .before .before .before .before .line7 .given .1 in (rw e (c .before .before .run .ensures .0), printed-as (rw e) (c .before .before .run .ensures .1))
+
+same-length-9 : tie.Need-same-length-9
+same-length-9 c = search needs
+
+returns-10 : tie.Need-returns-10
+returns-10 c = let e = c .before .before .before .before .before .line8 .given .1 in (rw e (c .before .before .picture .ensures .0), printed-as (rw e) (c .before .before .picture .ensures .1))
+
+same-length-10 : tie.Need-same-length-10
+same-length-10 c = search needs
+
+returns-11 : tie.Need-returns-11
+returns-11 c = let e = c .before .before .before .before .before .line9 .given .1 in (rw e, printed-as (rw e) (c .before .before .unreadable .ensures))
 
 pub act-spec : {M : Type 1} → statement M
 act-spec =
@@ -115,6 +163,14 @@ act-spec =
     slice-aggregate-write-2
     write-requires-2
     enum-known-line-5
+    settings-requires
+    enum-known-line-6
+    rail-requires
+    enum-known-line-7
+    run-requires
+    enum-known-line-8
+    picture-requires
+    enum-known-line-9
     unreadable-requires
     returns
     same-length
@@ -128,4 +184,12 @@ act-spec =
     same-length-5
     returns-6
     same-length-6
-    returns-7)
+    returns-7
+    same-length-7
+    returns-8
+    same-length-8
+    returns-9
+    same-length-9
+    returns-10
+    same-length-10
+    returns-11)

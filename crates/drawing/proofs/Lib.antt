@@ -1,0 +1,3 @@
+mod Cells
+pub mod Fits
+pub mod Placed
