@@ -53,7 +53,8 @@ fn main() -> io::Result<()> {
     while let Some(text) = next_text(&mut input)? {
         line += 1;
         let answer = match lines::read(&text) {
-            Ok(Line::Blank) => continue,
+            // The baseline is an axis, and has no simulator.
+            Ok(Line::Blank | Line::Settings(_) | Line::Rail(_) | Line::Run(_) | Line::Picture(_)) => continue,
             Ok(Line::Fresh) => {
                 axis = Axis::FRESH;
                 "fresh".to_string()
