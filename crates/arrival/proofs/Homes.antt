@@ -1,5 +1,5 @@
--- On a roomy rail a run homes in time. What is owed, in cells: the way to the limit ahead, and C cells for each leg after this one; every tick pays s
--- of it. Five regions say that no limit sets the error.
+-- On a roomy rail a run homes in time. What is owed, in cells: the way to the limit ahead, and for each leg after this one C, a share for the whole
+-- way; every tick pays s of it. Five regions say that no limit sets the error.
 -- Assumes nothing.
 use Prim.Native.Nat.{ℕ, zero, suc, _+_, _-_, _*_, _^_, _≤_, _<_, max}
 use native.Mathlib.Nat.{mul-le-mul-right, div-add-mod', mod-lt}
@@ -20,7 +20,7 @@ use Rattle.checks.proofs.Numbers.{accepts}
 use Rattle.carriage.specs.declared.Rail.{Rail}
 use Rattle.carriage.specs.Rail.{switchesAt, strideOf}
 use Rattle.carriage.proofs.Fitting.{fitting}
-use Rattle.simulator.proofs.Runs.{ridden-to}
+use Rattle.simulator.proofs.Runs.{ridden-to, admits}
 use Rattle.arrival.specs.Homes.{ceiling, bound, HomedWithin, HomesInTime}
 use Rattle.arrival.proofs.Homing.{run, tried, as-tried}
 use Rattle.arrival.proofs.Cells.{cell, along, forward-cell, backward-cell, pos-cell, neg-cell, movement}
@@ -292,4 +292,4 @@ homes-in-time r s start n ok good a b roomy h =
       afterCam = roomy .afterCam;
     } in
     let t = homes r ample (s .method) a b (f .cell) (f .onRail) n h in
-    subst (HomedWithin (bound r)) (sym (as-tried r s good start n ∙ ap (λ (x : ℤ). tried r (s .method) x n) (f .begins)) ∙ ridden-to r s start n _ ok (accepts s .1 good) refl) t
+    subst (HomedWithin (bound r)) (sym (as-tried r s good start n ∙ ap (λ (x : ℤ). tried r (s .method) x n) (f .begins)) ∙ ridden-to r s start n _ (admits r s start n ok (accepts s .1 good)) refl) t

@@ -1,5 +1,5 @@
--- A stretch is a leg that runs, and four are the whole run. A stretch that does not use up the ticks leads to a stage with fewer legs to come, and a start has four at most:
--- computed over the table. A stage with none to come has stopped.
+-- A stretch is a leg that runs, and four are the whole run. A stretch that does not use up the ticks leads to a stage with fewer legs to come, and a
+-- start has four at most: computed over the table. A stage with none to come has stopped.
 -- Assumes nothing.
 use Prim.Native.Nat.{ℕ, zero, suc, _+_, _-_, _/_, _≤_, _<_, max}
 use native.Mathlib.Omega.{arith}
@@ -33,18 +33,18 @@ use Rattle.simulator.specs.Run.{started, phaseOn, nextCell, nextAxis, stopped, 
 use Rattle.simulator.specs.Stretch.{goesOn, Stretch, here, tickMore, stretchIn, stretchOf}
 use Rattle.simulator.specs.Trace.{routeIn, legOf}
 use Rattle.simulator.proofs.Phases.{same-goes, goes-alike}
-use Rattle.simulator.proofs.Runs.{ridden-to}
+use Rattle.simulator.proofs.Runs.{ridden-to, admits}
 use Rattle.simulator.proofs.Stretches.{rides-on, run-stopped, not-begun}
 use Rattle.simulator.proofs.Traces.{legs-run}
 use Rattle.arrival.specs.Runs.{Place, placeAfter, axisAt}
-use Rattle.arrival.specs.Legs.{Runs, Whole, AllFollowed}
+use Rattle.arrival.specs.Legs.{LegRuns, Whole, AllFollowed}
 use Rattle.arrival.proofs.Regions.{legsIn}
 use Rattle.arrival.proofs.Riding as riding
 use Rattle.arrival.proofs.Runs.{all-step}
 use Rattle.arrival.proofs.Stages.{place-add, At, start-at}
 use Rattle.arrival.proofs.InPlace.{all-in-place}
 
--- the legs that may still run, the running one included; idle homing, where no acceptable settings lead, goes on for ever, as one does
+-- the legs that may still run, the running one included; idle homing, where no acceptable settings lead, counts as one
 abbrev toCome : Progress → ℕ
 toCome idle = 1
 toCome failed = 0
@@ -278,7 +278,7 @@ module _ (r : Rail) (s : Settings) (start : ℤ) (ok : acceptable s ≡ true) wh
   leg-runs Homed b e = absurd (true≢false e)
   leg-runs Failed b e = absurd (true≢false e)
 
-  leg-told : (before n : ℕ) (a : Axis) (x : ℤ) → placeAfter r before (started r s start) start ≡ record { axis = a; cell = x } → Runs r s start before (legOf a (stretchOf r n a x))
+  leg-told : (before n : ℕ) (a : Axis) (x : ℤ) → placeAfter r before (started r s start) start ≡ record { axis = a; cell = x } → LegRuns r s start before (legOf a (stretchOf r n a x))
   leg-told before n a x e =
       record {
         runs = λ k h. ap phaseOn (moved k) ∙ runs-in r s (phaseOn a) n a x k h ∙ leg-runs (phaseOn a) busy (unstopped h);
@@ -304,7 +304,7 @@ all-followed r s start n f ok =
     let o = runOf r s start n in
     let a = started r s start in
     let l : Left r s (n - 1) a start 4 = record { stage = _; at = start-at r s ok start; few = inr (start-few (s .method) (switchesAt r start)) } in
-    let c = ap (λ (q : Outcome). q .ticks) (ridden-to r s start n (ride r (n - 1) a start) f (accepts s .1 ok) refl) in
+    let c = ap (λ (q : Outcome). q .ticks) (ridden-to r s start n (ride r (n - 1) a start) (admits r s start n f (accepts s .1 ok)) refl) in
     let t1 = stretchOf r (n - 1) a start in
     let n1 = n - 1 - t1 .ticks in
     let t2 = stretchOf r n1 (t1 .axis) (t1 .cell) in

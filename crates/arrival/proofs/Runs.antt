@@ -8,9 +8,7 @@ use lib.IntN.{ℤ}
 use Rattle.settings.specs.declared.Settings.{Settings}
 use Rattle.settings.specs.declared.Verdict.{Verdict}
 use Rattle.settings.specs.declared.Verdict.the-variants.{Accepted, Refused}
-use Rattle.settings.specs.declared.Refusal.the-variants.{RailUnfit}
 use Rattle.settings.specs.Refusal.{verdictNumber, firstOf}
-use Rattle.checks.specs.Check.{verdictOf}
 use Rattle.checks.specs.Cases as checks
 use Rattle.checks.proofs.Numbers.{check-number, accepts}
 use Rattle.homing.specs.Phase.{Phase, Idle, Running, Homed, Failed}
@@ -25,29 +23,25 @@ use Rattle.carriage.specs.Rail.{railFits}
 use Rattle.carriage.proofs.Fitting.{fitting}
 use Rattle.simulator.specs.declared.Stop.the-variants as stop
 use Rattle.simulator.specs.declared.Outcome.{Outcome}
-use Rattle.simulator.specs.Run.{started, phaseOn, nextCell, nextAxis, stopped, stopOf, ran, oneMore, ride, refusedRun, ranUnder, runOf}
+use Rattle.simulator.specs.Run.{started, phaseOn, nextCell, nextAxis, stopped, stopOf, ran, oneMore, ride, judgedBy, judged, ranUnder, runOf}
 use Rattle.simulator.proofs.Settled.{third-verdict}
-use Rattle.simulator.proofs.Runs.{ridden-to}
+use Rattle.simulator.proofs.Runs.{ridden-to, admits}
 use Rattle.arrival.specs.Runs.{Numbers, AsByTheWriter, AllBegin, placeAfter, Steps, AllStep, NotRun, AllRefused}
 use Rattle.arrival.proofs.Settled.{settled-fresh}
 
 module _ (r : Rail) (s : Settings) (start : ℤ) (n : ℕ) where
-  under-number : (v : Verdict) → ranUnder v r s start n .number ≡ verdictNumber v
-  under-number Accepted = refl
-  under-number (Refused q) = refl
-
-  run-number : runOf r s start n .number ≡ cond (railFits r start n) (verdictNumber (verdictOf s)) 12
+  run-number : runOf r s start n .number ≡ verdictNumber (judged r s start n)
   unfolding runOf
-  run-number = go (railFits r start n)
+  run-number = go (judged r s start n)
     where
-      go : (b : Bool) → cond b (ranUnder (verdictOf s) r s start n) (refusedRun RailUnfit) .number ≡ cond b (verdictNumber (verdictOf s)) 12
-      go true = under-number (verdictOf s)
-      go false = refl
+      go : (v : Verdict) → ranUnder v r s start n .number ≡ verdictNumber v
+      go Accepted = refl
+      go (Refused q) = refl
 
 pub numbers : Numbers
 numbers r s start n = run-number r s start n ∙ go (railFits r start n)
   where
-    go : (b : Bool) → cond b (verdictNumber (verdictOf s)) 12 ≡ cond (not b) 12 (firstOf (checks.testsOf s))
+    go : (b : Bool) → verdictNumber (judgedBy b s) ≡ cond (not b) 12 (firstOf (checks.testsOf s))
     go true = check-number s
     go false = refl
 
@@ -62,12 +56,11 @@ all-begin r s start ok =
 
 pub all-refused : AllRefused
 unfolding runOf
-all-refused r s start n = go (railFits r start n) (verdictOf s)
+all-refused r s start n = go (judged r s start n)
   where
-    go : (b : Bool) (v : Verdict) → (cond b (ranUnder v r s start n) (refusedRun RailUnfit) .number ≡ 0 → ⊥) → NotRun (cond b (ranUnder v r s start n) (refusedRun RailUnfit))
-    go false v h = record { ticks = refl; stop = refl }
-    go true (Refused q) h = record { ticks = refl; stop = refl }
-    go true Accepted h = absurd (h refl)
+    go : (v : Verdict) → (ranUnder v r s start n .number ≡ 0 → ⊥) → NotRun (ranUnder v r s start n)
+    go (Refused q) h = record { ticks = refl; stop = refl }
+    go Accepted h = absurd (h refl)
 
 -- a phase that stops a run is not told as the number of ticks
 told : (p : Phase) → stopped p ≡ true → stopOf p ≡ stop.Ticks → ⊥
@@ -112,7 +105,7 @@ all-step r s start n f ok =
     let i = ridden r (n - 1) (started r s start) start in
     let least = fitting r start n f .ticks .least in
     let z : o .ticks + 1 - 1 ≡ o .ticks = omega arith in
-    subst (Steps r s start n) (ridden-to r s start n o f (accepts s .1 ok) refl)
+    subst (Steps r s start n) (ridden-to r s start n o (admits r s start n f (accepts s .1 ok)) refl)
     (record {
       number = refl;
       least = omega arith;

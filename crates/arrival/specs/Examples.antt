@@ -97,8 +97,8 @@ ends r method start n ticks s = comesTo (runOf r (sheet method) (pos start) n) 0
 abbrev isRefused : ℕ → Outcome → Bool
 isRefused number o = comesTo o number 0 stop.None
 
-abbrev pub roomy : List Bool
-roomy =
+abbrev pub inTime : List Bool
+inTime =
     ends paper 23 0 93 6 stop.Homed
     ∷ ends paper 23 6 93 3 stop.Homed
     ∷ ends paper 23 19 93 14 stop.Homed
@@ -177,6 +177,6 @@ refusals =
 roomy-paper : Roomy paper
 roomy-paper = record { slower = omega arith; onCam = omega arith; beforeCam = omega arith; afterCam = omega arith }
 
-holds : (all roomy ≡ true) × (all others ≡ true) × (all needed ≡ true) × (all last ≡ true) × (all refusals ≡ true)
+holds : (all inTime ≡ true) × (all others ≡ true) × (all needed ≡ true) × (all last ≡ true) × (all refusals ≡ true)
 unfolding runOf railFits sizesFit sized ticksFit camFits onRail switchesAt strideOf modulo signed wrapped floorDiv clamped gearedOf verdictOf limitsVerdict inRange positionsFit counts.fits optionWithHomingOk valuesOf total checksumOf positionFrom settingsOf fieldOk startRead fieldRead endVerdict endRead readOf controlCommandOf nextState eventCounts limitCounts rowOf mainRoute turnRoute skipRoute skips startRoute steps.runningOf steps.startOf answeredIn wordOf newPhase tickOf inReach methodOk wordsFrom wordsOf
 holds = (refl, refl, refl, refl, refl)

@@ -52,7 +52,7 @@ pub record Begins (r : Rail) (s : Settings) (start : ℤ) : Type 0 where
 abbrev pub AllBegin : Type 0
 AllBegin = (r : Rail) (s : Settings) (start : ℤ) → acceptable s ≡ true → Begins r s start
 
--- the axis after k later ticks of a run, and the carriage's cell, whatever stops the run
+-- the axis after k later ticks of a run, and the carriage's cell, as if nothing stopped the run
 pub record Place : Type 0 where
   pub axis : Axis
   pub cell : ℤ
@@ -79,9 +79,9 @@ pub record InPlace (r : Rail) (s : Settings) (start : ℤ) (k : ℕ) : Type 0 wh
 abbrev pub AllInPlace : Type 0
 AllInPlace = (r : Rail) (s : Settings) (start : ℤ) → acceptable s ≡ true → (k : ℕ) → InPlace r s start k
 
--- 01, "Forms for specific places": the result carries the ticks run, and these are the steps of the defined run. (Their bound is in `Homes.antt`.)
--- a run that is not refused. "The run stops at homed, homing error or the given number of ticks, and the result carries the ticks run, the start tick
--- included, and which of the three stopped it, the number of ticks only if neither other did."
+-- a run that is not refused: "The run stops at homed, homing error or the given number of ticks, and the result carries the ticks run, the start tick
+-- included, and which of the three stopped it, the number of ticks only if neither other did." So the ticks in the result are the steps of the defined
+-- run, as 01, "Forms for specific places", asks; their bound is in `Homes.antt`
 pub record Steps (r : Rail) (s : Settings) (start : ℤ) (n : ℕ) (o : Outcome) : Type 0 where
   pub number : o .number ≡ 0
   pub least : 1 ≤ o .ticks

@@ -181,7 +181,7 @@ fn print_usage() {
         STDOUT_FILENO,
         b"  settings METHOD FAST SLOW OFFSET NUM DEN LOWER UPPER MAX P1 N1 P2 N2 OPTION RATED [HOMING]\n",
     );
-    io::write_all(STDOUT_FILENO, b"  rail LENGTH CAM WIDTH FAST SLOW\n");
+    io::write_all(STDOUT_FILENO, b"  rail CELLS CAM WIDTH FAST SLOW\n");
     io::write_all(STDOUT_FILENO, b"  run START TICKS\n");
     io::write_all(STDOUT_FILENO, b"  picture START TICKS\n");
     io::write_all(

@@ -10,7 +10,7 @@ use lib.ListN.{length, length-append}
 use Rattle.counts.specs.Wrap.{wrapped}
 use Rattle.counts.proofs.Modulo.{wrapped-fits}
 use Rattle.carriage.specs.declared.Rail.{Rail}
-use Rattle.simulator.specs.declared.Leg.{Leg}
+use Rattle.simulator.specs.declared.LegRun.{LegRun}
 use Rattle.simulator.specs.declared.Stop.{Stop}
 use Rattle.simulator.specs.declared.Stop.the-variants.{None, Homed, Failed, Ticks}
 use Rattle.simulator.specs.declared.Trace.{Trace}
@@ -43,10 +43,10 @@ point-short r cell glyph name n h k = within (both (both (strip-short r _ _) (bo
 start-short : {d : ℕ} (r : Rail) (start : ℤ) → Short (suc d) (whole start) → Short (71 + d) (startRow r start)
 start-short r start h = point-short r start _ (ascii " start ") start (is (omega arith)) h
 
-leg-text-short : {d : ℕ} (l : Leg) → Short d (decimal (l .ticks)) → Short (10 + d) (legText l)
+leg-text-short : {d : ℕ} (l : LegRun) → Short d (decimal (l .ticks)) → Short (10 + d) (legText l)
 leg-text-short l h = within (both (both (both (all (ascii " ")) (all (_ ∷ []))) (all (_ ∷ []))) (both (all (ascii " ticks ")) h)) (omega arith)
 
-leg-short : {d : ℕ} (r : Rail) (from : ℤ) (l : Leg) → Short d (decimal (l .ticks)) → Short (71 + d) (legRow r from l)
+leg-short : {d : ℕ} (r : Rail) (from : ℤ) (l : LegRun) → Short d (decimal (l .ticks)) → Short (71 + d) (legRow r from l)
 unfolding legRow
 leg-short r from l h =
     either (eqb (l .ticks) 0) (is (omega arith)) (within (both (both (strip-short r _ _) (leg-text-short l h)) (all (ascii "\n"))) (omega arith))

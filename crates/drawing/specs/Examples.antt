@@ -6,7 +6,7 @@ use mathlib.Core.Path.{_≡_, refl}
 use lib.IntN.{ℤ, pos, negsuc}
 use Rattle.counts.specs.Wrap.{modulo, signed, wrapped}
 use Rattle.carriage.specs.declared.Rail.{Rail}
-use Rattle.simulator.specs.declared.Leg.{Leg}
+use Rattle.simulator.specs.declared.LegRun.{LegRun}
 use Rattle.simulator.specs.declared.Stop.the-variants.{Homed, Ticks}
 use Rattle.simulator.specs.declared.Trace.{Trace}
 use Rattle.numerals.specs.Writing.{digits}
@@ -14,7 +14,7 @@ use Rattle.tokens.specs.Ascii.{ascii}
 use Rattle.drawing.specs.Strip.{columnOf, glyphAt, glyphs}
 use Rattle.drawing.specs.Picture.{legRow, endedAt, pictureText}
 
-abbrev leg : ℕ → ℕ → ℤ → Leg
+abbrev leg : ℕ → ℕ → ℤ → LegRun
 leg route ticks cell = record { route = route; ticks = ticks; cell = cell }
 
 -- "the run from cell 19 of a rail of 20 cells with its cam on 5, 6 and 7, fast 2 and slow 1, under method 23": +F is turned by POT

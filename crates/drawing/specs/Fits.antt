@@ -6,7 +6,7 @@ use lib.IntN.{ℤ}
 use lib.ListN.{length}
 use lib.Signed.{mag}
 use Rattle.carriage.specs.declared.Rail.{Rail}
-use Rattle.simulator.specs.declared.Leg.{Leg}
+use Rattle.simulator.specs.declared.LegRun.{LegRun}
 use Rattle.simulator.specs.declared.Stop.{Stop}
 use Rattle.simulator.specs.declared.Trace.{Trace}
 use Rattle.drawing.specs.Picture.{railRow, startRow, legRow, endRow, pictureText}
@@ -14,7 +14,7 @@ use Rattle.drawing.specs.Picture.{railRow, startRow, legRow, endRow, pic
 pub record RowsFit : Type 0 where
   pub rail : (r : Rail) → r .length < 2 ^ 32 → length (railRow r) ≤ 81
   pub start : (r : Rail) (z : ℤ) → mag z < 2 ^ 31 → length (startRow r z) ≤ 81
-  pub leg : (r : Rail) (from : ℤ) (l : Leg) → l .ticks < 2 ^ 32 → length (legRow r from l) ≤ 81
+  pub leg : (r : Rail) (from : ℤ) (l : LegRun) → l .ticks < 2 ^ 32 → length (legRow r from l) ≤ 81
   pub end : (r : Rail) (cell : ℤ) (s : Stop) → length (endRow r cell s) ≤ 81
 
 -- what the types of a picture's numbers tell

@@ -9,7 +9,7 @@ use lib.IntN.{ℤ, pos, _-ℤ_}
 use Rattle.counts.specs.Wrap.{wrapped}
 use Rattle.legs.specs.Numbers.{forwardIn, fastIn}
 use Rattle.carriage.specs.declared.Rail.{Rail}
-use Rattle.simulator.specs.declared.Leg.{Leg}
+use Rattle.simulator.specs.declared.LegRun.{LegRun}
 use Rattle.simulator.specs.declared.Stop.{Stop}
 use Rattle.simulator.specs.declared.Stop.the-variants.{None, Homed, Failed, Ticks}
 use Rattle.simulator.specs.declared.Trace.{Trace}
@@ -56,7 +56,7 @@ startRow r start = pointRow r start (code "S") (ascii " start ") start
 
 -- "from the column of the cell where it began [...] to that of the cell where it ended `=` where the leg is fast and `-` where it is slow; but where
 -- it ended `>` where it goes forward and `<` where it goes backward"
-abbrev pub legMark : Rail → ℤ → Leg → Mark
+abbrev pub legMark : Rail → ℤ → LegRun → Mark
 legMark r from l =
     record {
       from = columnOf r from;
@@ -66,7 +66,7 @@ legMark r from l =
     }
 
 -- "Then its direction `+` or `-`, its speed `F` or `S`, and its ticks, as ` +F ticks 1`."
-abbrev pub legText : Leg → List ℕ
+abbrev pub legText : LegRun → List ℕ
 legText l =
     ascii " "
     ++ (cond (forwardIn (l .route)) (code "+") (code "-") ∷ [])
@@ -74,23 +74,23 @@ legText l =
     ++ (ascii " ticks " ++ decimal (l .ticks))
 
 -- "one for each leg that ran a tick"
-unfoldable pub legRow : Rail → ℤ → Leg → List ℕ
+unfoldable pub legRow : Rail → ℤ → LegRun → List ℕ
 legRow r from l = cond (eqb (l .ticks) 0) [] (stripText r plain (legMark r from l) ++ legText l ++ ascii "\n")
 
 -- the cell where a leg ended that began at a cell; one that did not run left the carriage there
-unfoldable pub endedAt : ℤ → Leg → ℤ
+unfoldable pub endedAt : ℤ → LegRun → ℤ
 endedAt from l = cond (eqb (l .ticks) 0) from (l .cell)
 
 -- "in their order"
-abbrev pub legsOf : Trace → List Leg
+abbrev pub legsOf : Trace → List LegRun
 legsOf t = t .first ∷ t .second ∷ t .third ∷ t .fourth ∷ []
 
-abbrev pub legRows : Rail → ℤ → List Leg → List ℕ
+abbrev pub legRows : Rail → ℤ → List LegRun → List ℕ
 legRows r from [] = []
 legRows r from (l ∷ ls) = legRow r from l ++ legRows r (endedAt from l) ls
 
 -- "the cell where the run stopped"
-abbrev pub lastCell : ℤ → List Leg → ℤ
+abbrev pub lastCell : ℤ → List LegRun → ℤ
 lastCell from [] = from
 lastCell from (l ∷ ls) = lastCell (endedAt from l) ls
 

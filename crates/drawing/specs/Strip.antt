@@ -19,7 +19,7 @@ unfoldable pub columnOf : Rail → ℤ → ℕ
 columnOf r (pos n) = cond (ltb n (r .length)) (1 + n * columns r / r .length) (columns r + 1)
 columnOf r (negsuc n) = 0
 
--- "from the column [...] to that of [...]", whichever is further left
+-- "from the column [...] to that of [...]", in either order
 abbrev pub spans : Mark → ℕ → Bool
 spans m column = between (m .from) (m .to) column || between (m .to) (m .from) column
 

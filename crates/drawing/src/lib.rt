@@ -1,6 +1,6 @@
 // A run on a paper rail, drawn as text (docs/LINES.md, "A picture"), on a page that the caller lends. What does not fit on the page is cut off.
 use carriage::Rail;
-use simulator::Leg;
+use simulator::LegRun;
 use simulator::Stop;
 use simulator::Trace;
 ghost use Prim.Native.Nat.{_≤_};
@@ -17,7 +17,7 @@ struct Frame {
     between: u8,
 }
 
-// The body stands in each column from one to the other, whichever is further left; in the second stands the head.
+// The body stands in each column between `from` and `to`, in either order; the head in `to`.
 struct Mark {
     from: u64,
     to: u64,
@@ -154,13 +154,13 @@ fn point_row(
     page::byte(out, at, b'\n')
 }
 
-fn choose(first: bool, one: u8, other: u8) -> u8
-    ensures { λ r. ⌜ r ≡ cond first one other ⌝ }
+fn choose(condition: bool, one: u8, other: u8) -> u8
+    ensures { λ r. ⌜ r ≡ cond condition one other ⌝ }
 {
-    if first { one } else { other }
+    if condition { one } else { other }
 }
 
-fn leg_mark(rail: Rail, from: i64, leg: Leg) -> Mark
+fn leg_mark(rail: Rail, from: i64, leg: LegRun) -> Mark
     ensures { λ r. ⌜ r ≡ legMark rail from leg ⌝ }
 {
     Mark {
@@ -172,7 +172,7 @@ fn leg_mark(rail: Rail, from: i64, leg: Leg) -> Mark
 }
 
 // A leg's direction, speed and ticks.
-fn leg_text(out: &mut [u8], at: usize, leg: Leg) -> usize
+fn leg_text(out: &mut [u8], at: usize, leg: LegRun) -> usize
     ensures { λ r. ⌜ Printed (now (out .entry)) at (legText leg) (now (out .exit)) r ⌝ }
 {
     let at = page::byte(out, at, b' ');
@@ -182,7 +182,7 @@ fn leg_text(out: &mut [u8], at: usize, leg: Leg) -> usize
 }
 
 // A leg that began where the drawing has come to; one with no tick did not run, and adds nothing.
-fn leg_row(out: &mut [u8], drawn: Drawn, rail: Rail, leg: Leg) -> Drawn
+fn leg_row(out: &mut [u8], drawn: Drawn, rail: Rail, leg: LegRun) -> Drawn
     ensures text { λ r. ⌜ Printed (now (out .entry)) (drawn .end) (legRow rail (drawn .cell) leg) (now (out .exit)) (r .end) ⌝ }
     ensures cell { λ r. ⌜ r .cell ≡ endedAt (drawn .cell) leg ⌝ }
 {

@@ -1,4 +1,4 @@
--- "rail LENGTH CAM WIDTH FAST SLOW"
+-- "rail CELLS CAM WIDTH FAST SLOW"
 -- Assumes nothing.
 use Prim.Native.Nat.{ℕ}
 use mathlib.Core.List.{List}

@@ -100,7 +100,7 @@ fn one_layout(text: &[u8], cursor: Cursor) -> Line
     ended(text, cursor, Line::Layout(writing))
 }
 
-fn run_settings(text: &[u8], cursor: Cursor) -> Line
+fn one_settings(text: &[u8], cursor: Cursor) -> Line
     ensures { λ r. ⌜ r ≡ settingsLine (now (text .entry)) cursor ⌝ }
 {
     let read = sheets::settings(text, cursor);
@@ -146,7 +146,7 @@ fn opened(text: &[u8], number: usize, next: Cursor, unread: Cursor) -> Line
         2 => one_sheet(text, next),
         3 => one_layout(text, next),
         4 => ended(text, next, Line::Fresh),
-        5 => run_settings(text, next),
+        5 => one_settings(text, next),
         6 => one_rail(text, next),
         7 => one_run(text, next),
         8 => one_picture(text, next),

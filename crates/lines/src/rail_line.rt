@@ -1,4 +1,4 @@
-// A rail's words: LENGTH CAM WIDTH FAST SLOW.
+// A rail's words: CELLS CAM WIDTH FAST SLOW.
 use carriage::Rail;
 use cursors::Cursor;
 ghost use mathlib.Core.Path.{_≡_};

@@ -15,7 +15,7 @@ ghost use Rattle.session.specs.Answering.{meant, zeroSettings, zeroRail,
 pub struct Session {
     // The axis's words.
     pub axis: Lent,
-    // Of later runs.
+    // The settings and the rail of later runs.
     pub settings: Settings,
     pub rail: Rail,
     // Lines so far.

@@ -192,7 +192,7 @@ fn fields(allowed: bool, layout: u32, text: &[u8], cursor: Cursor) -> WritingRea
     }
 }
 
-// Settings that are written nowhere: HOMING may come last.
+// The settings of later runs; HOMING may come last.
 pub fn settings(text: &[u8], cursor: Cursor) -> SettingsRead
     ensures { λ r. ⌜ r ≡ settingsRead true (now (text .entry)) cursor ⌝ }
 {

@@ -8,17 +8,11 @@ use borrow.Author.Tests.{eq-eqb, ne-eqb}
 use lib.IntN.{ℤ}
 use lib.Signed.{mag}
 use Rattle.settings.specs.declared.Settings.{Settings}
-use Rattle.settings.specs.declared.Refusal.the-variants.{RailUnfit}
-use Rattle.settings.specs.declared.Verdict.{Verdict}
-use Rattle.settings.specs.declared.Verdict.the-variants.{Accepted, Refused}
-use Rattle.settings.proofs.Numbered.{not-zero}
-use Rattle.checks.specs.Check.{verdictOf}
 use Rattle.rules.specs.Axis.{Axis}
 use Rattle.carriage.specs.declared.Rail.{Rail}
-use Rattle.carriage.specs.Rail.{railFits}
-use Rattle.simulator.specs.declared.Leg.{Leg}
+use Rattle.simulator.specs.declared.LegRun.{LegRun}
 use Rattle.simulator.specs.declared.Outcome.{Outcome}
-use Rattle.simulator.specs.Run.{started, phaseOn, refusedRun, ranUnder, runOf}
+use Rattle.simulator.specs.Run.{started, phaseOn, runOf}
 use Rattle.simulator.specs.Stretch.{StaysNear, stretchOf}
 use Rattle.simulator.specs.Trace.{RunsLeg, legsFrom, noLegs, traced, traceOf}
 use Rattle.simulator.proofs.Stretches.{ledTo, few-ticks, stretch-near}
@@ -34,7 +28,7 @@ left-by r n a x t y b i e =
     let near : mag y ≤ mag x + t * 2 ^ 21 = rw e at (stretch-near r (phaseOn a) (i .fast) (i .slow) n a x) in
     record { few = few; reach = record { fast = i .fast; slow = i .slow; near = omega (arith, few, near, i .near) } }
 
-pub legs-told : (r : Rail) (n : ℕ) (a : Axis) (x : ℤ) (o : Outcome) (l1 l2 l3 l4 : Leg) (a1 a2 a3 a4 : Axis)
+pub legs-told : (r : Rail) (n : ℕ) (a : Axis) (x : ℤ) (o : Outcome) (l1 l2 l3 l4 : LegRun) (a1 a2 a3 a4 : Axis)
     → RunsLeg r n a x l1 a1
     → RunsLeg r (n - l1 .ticks) a1 (l1 .cell) l2 a2
     → RunsLeg r (n - l1 .ticks - l2 .ticks) a2 (l2 .cell) l3 a3
@@ -45,20 +39,6 @@ legs-told r n a x o l1 l2 l3 l4 a1 a2 a3 a4 k1 k2 k3 k4 =
     let m3 = rw (k1 .told, m2 .told, m2 .left) at k3 in
     let m4 = rw (k1 .told, m2 .told, m3 .told, m3 .left) at k4 in
     rw (k1 .told, m2 .told, m3 .told, m4 .told)
-
--- a run with the number 0 is neither unfit nor refused
-pub record Runs (r : Rail) (s : Settings) (start : ℤ) (n : ℕ) : Type 0 where
-  pub fits : railFits r start n ≡ true
-  pub accepted : verdictOf s ≡ Accepted
-
-pub runs : (r : Rail) (s : Settings) (start : ℤ) (n : ℕ) → runOf r s start n .number ≡ 0 → Runs r s start n
-unfolding runOf
-runs r s start n = go (railFits r start n) refl (verdictOf s) refl
-  where
-    go : (b : Bool) → railFits r start n ≡ b → (v : Verdict) → verdictOf s ≡ v → cond b (ranUnder v r s start n) (refusedRun RailUnfit) .number ≡ 0 → Runs r s start n
-    go false f v e z = absurd (not-zero RailUnfit z)
-    go true f (Refused q) e z = absurd (not-zero q z)
-    go true f Accepted e z = record { fits = f; accepted = e }
 
 pub legs-run : (r : Rail) (s : Settings) (start : ℤ) (n : ℕ) (o : Outcome) → o ≡ runOf r s start n → o .number ≡ 0
     → legsFrom r (n - 1) (started r s start) start o ≡ traceOf r s start n

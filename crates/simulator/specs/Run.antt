@@ -116,11 +116,16 @@ ridden r s start n = oneMore (ride r (n - 1) (started r s start) start)
 abbrev pub refusedRun : Refusal → Outcome
 refusedRun q = record { number = numberOf q; ticks = 0; stop = stop.None }
 
--- "a sheet, refused with 3, 5 or 6 as by the writer"
+-- a sheet is "refused with 3, 5 or 6 as by the writer"; "12, rail unfit, [...] tested before the sheet"
+abbrev pub judgedBy : Bool → Settings → Verdict
+judgedBy fits s = cond fits (verdictOf s) (Refused RailUnfit)
+
+abbrev pub judged : Rail → Settings → ℤ → ℕ → Verdict
+judged r s start n = judgedBy (railFits r start n) s
+
 abbrev pub ranUnder : Verdict → Rail → Settings → ℤ → ℕ → Outcome
 ranUnder (Refused q) r s start n = refusedRun q
 ranUnder Accepted r s start n = ridden r s start n
 
--- "12, rail unfit, [...] tested before the sheet"
 unfoldable pub runOf : Rail → Settings → ℤ → ℕ → Outcome
-runOf r s start n = cond (railFits r start n) (ranUnder (verdictOf s) r s start n) (refusedRun RailUnfit)
+runOf r s start n = ranUnder (judged r s start n) r s start n

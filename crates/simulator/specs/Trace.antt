@@ -9,7 +9,7 @@ use Rattle.settings.specs.declared.Settings.{Settings}
 use Rattle.homing.specs.Phase.{Phase, Idle, Running, Homed, Failed}
 use Rattle.rules.specs.Axis.{Axis}
 use Rattle.carriage.specs.declared.Rail.{Rail}
-use Rattle.simulator.specs.declared.Leg.{Leg}
+use Rattle.simulator.specs.declared.LegRun.{LegRun}
 use Rattle.simulator.specs.declared.Outcome.{Outcome}
 use Rattle.simulator.specs.declared.Trace.{Trace}
 use Rattle.simulator.specs.Run.{started, phaseOn, runOf}
@@ -23,7 +23,7 @@ routeIn Homed = 0
 routeIn Failed = 0
 
 -- the leg from an axis on, by its stretch; with no tick it did not run, whatever its route
-abbrev pub legOf : Axis → Stretch → Leg
+abbrev pub legOf : Axis → Stretch → LegRun
 legOf a t = record { route = routeIn (phaseOn a); ticks = t .ticks; cell = t .cell }
 
 -- four stretches, each from where the one before led, with the ticks that it left
@@ -38,7 +38,7 @@ legsFrom r n a x o =
     let t4 = stretchOf r n3 (t3 .axis) (t3 .cell) in
     record { outcome = o; first = legOf a t1; second = legOf (t1 .axis) t2; third = legOf (t2 .axis) t3; fourth = legOf (t3 .axis) t4 }
 
-abbrev pub noLeg : ℤ → Leg
+abbrev pub noLeg : ℤ → LegRun
 noLeg start = record { route = 0; ticks = 0; cell = start }
 
 -- a refused run has no leg
@@ -52,6 +52,6 @@ unfoldable pub traceOf : Rail → Settings → ℤ → ℕ → Trace
 traceOf r s start n = traced r s start n (runOf r s start n)
 
 -- one leg run: what is told of it, and the axis after it
-pub record RunsLeg (r : Rail) (n : ℕ) (a : Axis) (x : ℤ) (leg : Leg) (b : Axis) : Type 0 where
+pub record RunsLeg (r : Rail) (n : ℕ) (a : Axis) (x : ℤ) (leg : LegRun) (b : Axis) : Type 0 where
   pub told : leg ≡ legOf a (stretchOf r n a x)
   pub left : b ≡ stretchOf r n a x .axis

@@ -8,14 +8,12 @@ use settings::Verdict;
 use ticks::Tick;
 use torque::LimitSet;
 ghost use mathlib.Core.Path.{_≡_};
-ghost use mathlib.Core.Bool.{true};
 ghost use Prim.Native.Nat.{_-_, _≤_};
 ghost use Rattle.homing.specs.Phase.{phaseOf};
 ghost use Rattle.cells.specs.Cells.{axisIn};
 ghost use Rattle.checks.specs.Check.{verdictOf};
 ghost use Rattle.homing.specs.Moving.{runningLeg};
-ghost use Rattle.carriage.specs.Rail.{railFits};
-ghost use Rattle.simulator.specs.Run.{tickAt, after, afterWords, startedFrom, started, wayOf, phaseOn, stopped, stopOf, ran, ride, refusedRun, runOf};
+ghost use Rattle.simulator.specs.Run.{tickAt, after, afterWords, startedFrom, started, wayOf, phaseOn, stopped, stopOf, ran, ride, refusedRun, judgedBy, judged, runOf};
 ghost use Rattle.simulator.specs.Stretch.{StaysNear, Stretches};
 ghost use Rattle.simulator.specs.Trace.{routeIn, RunsLeg, legsFrom, noLeg, traceOf};
 
@@ -36,7 +34,7 @@ pub struct Outcome {
 }
 
 // A leg of a run: the ticks that it ran, and the cell where it ended.
-pub struct Leg {
+pub struct LegRun {
     // This leg and those after it, as `legs` numbers them.
     pub route: u32,
     pub ticks: u32,
@@ -46,13 +44,13 @@ pub struct Leg {
 // A run and its legs, in their order: no route has more than four. A leg with no tick did not run.
 pub struct Trace {
     pub outcome: Outcome,
-    pub first: Leg,
-    pub second: Leg,
-    pub third: Leg,
-    pub fourth: Leg,
+    pub first: LegRun,
+    pub second: LegRun,
+    pub third: LegRun,
+    pub fourth: LegRun,
 }
 
-// How far a run has come: its ticks, and the carriage's cell.
+// A stretch: its ticks, and the cell that it led to.
 struct Progress {
     ticks: u32,
     cell: i64,
@@ -101,16 +99,15 @@ fn enable_and_start(axis: &mut Lent, rail: Rail, cell: i64)
 }
 
 // A fresh axis takes the settings over, in layout 3, which holds all that are acceptable, and is started.
-fn begin(axis: &mut Lent, rail: Rail, s: Settings, start: i32) -> Verdict
-    ensures verdict { λ r. ⌜ r ≡ verdictOf s ⌝ }
-    ensures started { λ r. ⌜ (r ≡ Verdict.Accepted → axisIn (now (axis .exit)) ≡ started rail s start) ⌝ }
+fn begin(axis: &mut Lent, rail: Rail, s: Settings, start: i32)
+    requires { ⌜ verdictOf s ≡ Verdict.Accepted ⌝ }
+    ensures { λ _. ⌜ axisIn (now (axis .exit)) ≡ started rail s start ⌝ }
 {
     let mut words = [0u32; 16];
-    let verdict = writer::write(3, s, &mut words);
+    writer::write(3, s, &mut words);
     axis::fresh(axis);
     take_words(axis, words);
     enable_and_start(axis, rail, start as i64);
-    verdict
 }
 
 fn has_stopped(phase: u32) -> bool
@@ -204,34 +201,40 @@ fn refused(refusal: Refusal) -> Outcome
     }
 }
 
-// A run on a rail that fits.
-fn run_fitting(rail: Rail, s: Settings, start: i32, ticks: u32) -> Outcome
-    requires { ⌜ railFits rail start ticks ≡ true ⌝ }
-    ensures { λ r. ⌜ r ≡ runOf rail s start ticks ⌝ }
+// Whether a run may be made: first by rail, start and ticks, then by the settings.
+fn judge(fits: bool, s: Settings) -> Verdict
+    ensures { λ r. ⌜ r ≡ judgedBy fits s ⌝ }
 {
-    let mut axis: Lent = [0; 39];
-    match begin(&mut axis, rail, s, start) {
-        Verdict::Refused(refusal) => refused(refusal),
-        Verdict::Accepted => {
-            let later = ride(&mut axis, rail, ticks - 1, start as i64);
-            let stop = stop_in(cells::phase(&axis));
-            Outcome {
-                number: 0,
-                ticks: later + 1,
-                stop,
-            }
-        }
+    if fits {
+        checks::check(s)
+    } else {
+        Verdict::Refused(Refusal::RailUnfit)
     }
 }
 
-// A run from a cell of the rail, given so many ticks.
+// A run that may be made.
+fn run_admitted(rail: Rail, s: Settings, start: i32, ticks: u32) -> Outcome
+    requires { ⌜ judged rail s start ticks ≡ Verdict.Accepted ⌝ }
+    ensures { λ r. ⌜ r ≡ runOf rail s start ticks ⌝ }
+{
+    let mut axis: Lent = [0; 39];
+    begin(&mut axis, rail, s, start);
+    let later = ride(&mut axis, rail, ticks - 1, start as i64);
+    let stop = stop_in(cells::phase(&axis));
+    Outcome {
+        number: 0,
+        ticks: later + 1,
+        stop,
+    }
+}
+
+// A run from a start cell, given so many ticks.
 pub fn run(rail: Rail, s: Settings, start: i32, ticks: u32) -> Outcome
     ensures { λ r. ⌜ r ≡ runOf rail s start ticks ⌝ }
 {
-    if carriage::fits(rail, start, ticks) {
-        run_fitting(rail, s, start, ticks)
-    } else {
-        refused(Refusal::RailUnfit)
+    match judge(carriage::fits(rail, start, ticks), s) {
+        Verdict::Refused(refusal) => refused(refusal),
+        Verdict::Accepted => run_admitted(rail, s, start, ticks),
     }
 }
 
@@ -242,7 +245,7 @@ fn route_in(phase: u32) -> u32
 }
 
 // One leg.
-fn run_leg(axis: &mut Lent, rail: Rail, ticks: u32, cell: i64) -> Leg
+fn run_leg(axis: &mut Lent, rail: Rail, ticks: u32, cell: i64) -> LegRun
     requires { ⌜ StaysNear rail ticks cell ⌝ }
     ensures { λ r. ⌜ RunsLeg rail ticks (axisIn (now (axis .entry))) cell r (axisIn (now (axis .exit))) ⌝ }
     ensures { λ r. ⌜ r .ticks ≤ ticks ⌝ }
@@ -250,7 +253,7 @@ fn run_leg(axis: &mut Lent, rail: Rail, ticks: u32, cell: i64) -> Leg
 {
     let route = route_in(cells::phase(axis));
     let run = stretch(axis, rail, ticks, cell);
-    Leg {
+    LegRun {
         route,
         ticks: run.ticks,
         cell: run.cell,
@@ -278,10 +281,10 @@ fn run_legs(axis: &mut Lent, rail: Rail, ticks: u32, cell: i64, outcome: Outcome
     }
 }
 
-fn no_leg(start: i32) -> Leg
+fn no_leg(start: i32) -> LegRun
     ensures { λ r. ⌜ r ≡ noLeg start ⌝ }
 {
-    Leg {
+    LegRun {
         route: 0,
         ticks: 0,
         cell: start as i64,

@@ -23,8 +23,8 @@ one-layout-requires c κs = search needs
 ended-requires : tie.Need-ended-requires
 ended-requires c κs = search needs
 
-run-settings-requires : tie.Need-run-settings-requires
-run-settings-requires c κs = search needs
+one-settings-requires : tie.Need-one-settings-requires
+one-settings-requires c κs = search needs
 
 one-rail-requires : tie.Need-one-rail-requires
 one-rail-requires c κs = search needs
@@ -54,7 +54,7 @@ returns-5 : tie.Need-returns-5
 returns-5 c = rw (c .before .match .keys5, c .ended .ensures)
 
 returns-6 : tie.Need-returns-6
-returns-6 c = rw (c .before .match .keys6, c .run-settings .ensures)
+returns-6 c = rw (c .before .match .keys6, c .one-settings .ensures)
 
 returns-7 : tie.Need-returns-7
 returns-7 c = rw (c .before .match .keys7, c .one-rail .ensures)
@@ -80,7 +80,7 @@ opened-spec =
     one-sheet-requires
     one-layout-requires
     ended-requires
-    run-settings-requires
+    one-settings-requires
     one-rail-requires
     one-run-requires
     one-picture-requires

@@ -1,11 +1,12 @@
 -- `simulator::begin` meets its contract.
 -- Assumes nothing.
-use mathlib.Core.Path.{sym, ap, _∙_}
+use mathlib.Core.Path.{_≡_, ap, _∙_}
 use lib.ListN.{replicate}
 use native.Mathlib.Omega.{arith}
 use borrow.Author.Needs.{needs}
+use Rattle.cells.specs.Cells.{axisIn}
 use Rattle.counts.proofs.Integers.{cast-fits, read-wide}
-use Rattle.simulator.specs.Run.{startedFrom}
+use Rattle.simulator.specs.Run.{settled, startedFrom}
 use Rattle.simulator.proofs.Settled.{third-verdict, sixteen-words}
 use Rattle.simulator.proofs.begin.Statement.{statement}
 use Rattle.simulator.proofs.begin.Tie as tie
@@ -32,16 +33,12 @@ returns : tie.Need-returns
 returns c =
     let w = c .before .before .before .before .before .before .before in
     let b = w .before .before in
-    let v = w .write .ensures .0 in
-    let same = third-verdict (b .args .s) (replicate 16 0) (omega arith) in (
-      v ∙ same,
-      λ e.
-          let run = rw (read-wide (b .fits .start)) at (c .enable-and-start .ensures) in
-          let t = c .before .before in
-          let f = t .before .before in
-          let ws = w .write .ensures .1 ∙ sixteen-words (b .args .s) (sym v ∙ e) in
-          run ∙ ap (startedFrom (b .args .rail) (b .args .start)) (t .take-words .ensures ∙ rw (f .fresh .ensures .axis, ws)),
-    )
+    let v = third-verdict (b .args .s) (replicate 16 0) (omega arith) ∙ b .pre in
+    let t = c .before .before in
+    let f = t .before .before in
+    let ws = w .write .ensures .1 ∙ sixteen-words (b .args .s) v in
+    let a : axisIn (t .take-words .last .0) ≡ settled (b .args .s) = t .take-words .ensures ∙ rw (f .fresh .ensures .axis, ws) in
+    rw (read-wide (b .fits .start)) at (c .enable-and-start .ensures) ∙ ap (startedFrom (b .args .rail) (b .args .start)) a
 
 pub begin-spec : {M : Type 1} → statement M
 begin-spec =

@@ -1,7 +1,6 @@
 -- `simulator::follow` meets its contract.
 -- Assumes nothing.
 use Prim.Native.Nat.{_-_}
-use native.Mathlib.Omega.{arith}
 use mathlib.Core.Path.{_≡_, sym, ap, _∙_}
 use mir.Facts.{toZ-ofZ}
 use Rattle.counts.proofs.Integers.{cast-fits, read-wide}
@@ -9,7 +8,8 @@ use Rattle.carriage.proofs.Fitting.{fitting}
 use Rattle.simulator.specs.declared.Outcome.{Outcome}
 use Rattle.simulator.specs.Run.{started}
 use Rattle.simulator.specs.Trace.{legsFrom}
-use Rattle.simulator.proofs.Traces.{runs, legs-run, legs-none}
+use Rattle.simulator.proofs.Runs.{Admitted, admitted, runs, begins-near}
+use Rattle.simulator.proofs.Traces.{legs-run, legs-none}
 use borrow.Author.Needs.{needs}
 use Rattle.simulator.proofs.follow.Statement.{statement}
 use Rattle.simulator.proofs.follow.Tie as tie
@@ -17,33 +17,31 @@ use Rattle.simulator.proofs.follow.Tie as tie
 run-requires : tie.Need-run-requires
 run-requires c κs = search needs
 
+-- the run was not refused
+not-refused : (c : tie.After-axis) → (let b = c .before .before .before .before in Admitted (b .args .rail) (b .args .s) (b .args .start) (b .args .ticks))
+not-refused c =
+    let o = c .before .before .before in
+    let b = o .before in
+    let e = rw (toZ-ofZ (b .fits .start)) at (o .run .ensures) in
+    let z = ap (λ (q : Outcome). q .number) (sym e) ∙ c .before .if1 .taken in
+    admitted (b .args .rail) (b .args .s) (b .args .start) (b .args .ticks) (runs (b .args .rail) (b .args .s) (b .args .start) (b .args .ticks) z)
+
 begin-requires : tie.Need-begin-requires
-begin-requires c κs = search needs
+begin-requires c κs = not-refused c .accepted
 
 sub-run-legs : tie.Need-sub-run-legs
 sub-run-legs c =
-    let o = c .before .before .before .before .before in
-    let b = o .before in
-    let e = rw (toZ-ofZ (b .fits .start)) at (o .run .ensures) in
-    let z = ap (λ (q : Outcome). q .number) (sym e) ∙ c .before .before .before .if1 .taken in
-    let f = fitting (b .args .rail) (b .args .start) (b .args .ticks) (runs (b .args .rail) (b .args .s) (b .args .start) (b .args .ticks) z .fits) in
-    f .ticks .least
+    let b = c .before .before .before .before .before .before in
+    fitting (b .args .rail) (b .args .start) (b .args .ticks) (not-refused (c .before .before) .fits) .ticks .least
 
 cast-run-legs : tie.Need-cast-run-legs
 cast-run-legs c = cast-fits (c .before .before .before .before .before .before .fits .start)
 
 run-legs-requires : tie.Need-run-legs-requires
 run-legs-requires c κs =
-    let o = c .before .before .before .before .before in
-    let b = o .before in
-    let e = rw (toZ-ofZ (b .fits .start)) at (o .run .ensures) in
-    let z = ap (λ (q : Outcome). q .number) (sym e) ∙ c .before .before .before .if1 .taken in
-    let f = fitting (b .args .rail) (b .args .start) (b .args .ticks) (runs (b .args .rail) (b .args .s) (b .args .start) (b .args .ticks) z .fits) in
-    record {
-      fast = f .fast .most;
-      slow = f .slow .most;
-      near = rw (read-wide (b .fits .start), f .begins) (omega (arith, f .onRail, f .length .most, f .ticks .most));
-    }
+    let b = c .before .before .before .before .before .before in
+    let f = fitting (b .args .rail) (b .args .start) (b .args .ticks) (not-refused (c .before .before) .fits) in
+    rw (read-wide (b .fits .start)) (begins-near (b .args .rail) (b .args .start) (b .args .ticks) f)
 
 no-leg-requires : tie.Need-no-leg-requires
 no-leg-requires c κs = search needs
@@ -64,9 +62,7 @@ returns c =
     let b = o .before in
     let e = rw (toZ-ofZ (b .fits .start)) at (o .run .ensures) in
     let t = k .before .before .before .if1 .taken in
-    let z = ap (λ (q : Outcome). q .number) (sym e) ∙ t in
-    let v = k .before .begin .ensures .0 ∙ runs (b .args .rail) (b .args .s) (b .args .start) (b .args .ticks) z .accepted in
-    let a = rw (toZ-ofZ (b .fits .start)) at (k .before .begin .ensures .1 v) in
+    let a = rw (toZ-ofZ (b .fits .start)) at (k .before .begin .ensures) in
     let g : c .run-legs .result ≡ legsFrom (b .args .rail) (b .args .ticks - 1) (started (b .args .rail) (b .args .s) (b .args .start)) (b .args .start) (o .run .result) = rw (read-wide (b .fits .start), a) at (c .run-legs .ensures) in
     g ∙ legs-run (b .args .rail) (b .args .s) (b .args .start) (b .args .ticks) (o .run .result) e t
 

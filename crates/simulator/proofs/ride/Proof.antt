@@ -11,7 +11,7 @@ use borrow.Author.Needs.{needs}
 use Rattle.cells.specs.Cells.{axisIn}
 use Rattle.simulator.specs.Run.{stopped, ride}
 use Rattle.simulator.proofs.Phases.{phase-on}
-use Rattle.simulator.proofs.Stretches.{later, stays-here, run-out, run-stopped, goes-onward}
+use Rattle.simulator.proofs.Stretches.{later, stays-here, run-out, run-stopped, Onward, goes-onward}
 use Rattle.simulator.proofs.ride.Statement.{statement}
 use Rattle.simulator.proofs.ride.Tie as tie
 
@@ -55,47 +55,37 @@ stretch-requires c κs =
     let h = c .before .before .before .before .before .before in
     record { fast = h .before .pre .fast; slow = h .before .pre .slow; near = h .loop .inv .2 }
 
-add-done : tie.Need-add-done Inv-loop μ-loop
-add-done c =
+-- the stretch that a turn of the loop runs
+onward : (c : tie.After-struct-known Inv-loop μ-loop)
+    → (let q = c .before .before in
+    let h = q .before .before .before .before .before .before .before in
+    let w = q .stretch .result in
+    Onward (h .before .args .rail) (h .before .args .ticks) (h .loop .done) (axisIn (h .loop .axis)) (toZ w64 (h .loop .at)) (w .ticks) (w .cell) (axisIn (q .stretch .last .0)))
+onward c =
     let q = c .before .before in
     let e = q .before .before in
-    let h = e .before .before .before .before .before in
-    let b = h .before in
     let p = e .before .before in
+    let h = p .before .before .before in
+    let b = h .before in
     let on = p .phase .ensures ∙ sym (phase-on (h .loop .axis)) in
     let s = ap stopped (sym on) ∙ sym (e .before .has-stopped .ensures) ∙ e .if1 .left in
-    let w = q .stretch .result in
-    let k = e .before .before .before .before .loop-test .taken in
-    let o = goes-onward (b .args .rail) (b .args .ticks) (h .loop .done) (axisIn (h .loop .axis)) (toZ w64 (h .loop .at)) (w .ticks) (w .cell) (axisIn (q .stretch .last .0)) (b .pre .fast) (b .pre .slow) k s (q .stretch .ensures) in
-    omega (arith, o .few)
+    let k = p .before .before .loop-test .taken in
+    goes-onward
+    (b .args .rail) (b .args .ticks) (h .loop .done) (axisIn (h .loop .axis)) (toZ w64 (h .loop .at)) (q .stretch .result .ticks) (q .stretch .result .cell)
+    (axisIn (q .stretch .last .0)) (b .pre .fast) (b .pre .slow) k s (q .stretch .ensures)
+
+add-done : tie.Need-add-done Inv-loop μ-loop
+add-done c = omega (arith, onward c .few)
 
 loop-less : tie.Need-loop-less Inv-loop μ-loop
-loop-less c =
-    let q = c .before .before in
-    let e = q .before .before in
-    let h = e .before .before .before .before .before in
-    let b = h .before in
-    let p = e .before .before in
-    let on = p .phase .ensures ∙ sym (phase-on (h .loop .axis)) in
-    let s = ap stopped (sym on) ∙ sym (e .before .has-stopped .ensures) ∙ e .if1 .left in
-    let w = q .stretch .result in
-    let k = e .before .before .before .before .loop-test .taken in
-    let o = goes-onward (b .args .rail) (b .args .ticks) (h .loop .done) (axisIn (h .loop .axis)) (toZ w64 (h .loop .at)) (w .ticks) (w .cell) (axisIn (q .stretch .last .0)) (b .pre .fast) (b .pre .slow) k s (q .stretch .ensures) in
-    omega (arith, o .few, o .some)
+loop-less c = omega (arith, onward c .few, onward c .some)
 
 loop-again : tie.Need-loop-again Inv-loop μ-loop
 loop-again c =
     let q = c .before .before in
-    let e = q .before .before in
-    let h = e .before .before .before .before .before in
-    let b = h .before in
-    let p = e .before .before in
-    let on = p .phase .ensures ∙ sym (phase-on (h .loop .axis)) in
-    let s = ap stopped (sym on) ∙ sym (e .before .has-stopped .ensures) ∙ e .if1 .left in
-    let w = q .stretch .result in
-    let k = e .before .before .before .before .loop-test .taken in
-    let o = goes-onward (b .args .rail) (b .args .ticks) (h .loop .done) (axisIn (h .loop .axis)) (toZ w64 (h .loop .at)) (w .ticks) (w .cell) (axisIn (q .stretch .last .0)) (b .pre .fast) (b .pre .slow) k s (q .stretch .ensures) in
-    let y : SFits w64 (w .cell) = search needs in (
+    let h = q .before .before .before .before .before .before .before in
+    let o = onward c in
+    let y : SFits w64 (q .stretch .result .cell) = search needs in (
       omega (arith, o .few),
       rw (toZ-ofZ y) (h .loop .inv .1 ∙ o .same),
       rw (toZ-ofZ y) (omega (arith, o .few, o .near, h .loop .inv .2)),

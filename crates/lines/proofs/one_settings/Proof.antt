@@ -1,8 +1,8 @@
--- `lines::run_settings` meets its contract.
+-- `lines::one_settings` meets its contract.
 -- Assumes nothing.
 use borrow.Author.Needs.{needs}
-use Rattle.lines.proofs.run_settings.Statement.{statement}
-use Rattle.lines.proofs.run_settings.Tie as tie
+use Rattle.lines.proofs.one_settings.Statement.{statement}
+use Rattle.lines.proofs.one_settings.Tie as tie
 
 settings-requires : tie.Need-settings-requires
 settings-requires c κs = search needs
@@ -13,5 +13,5 @@ ended-requires c κs = search needs
 returns : tie.Need-returns
 returns c = rw (c .ended .ensures, c .before .before .before .settings .ensures)
 
-pub run-settings-spec : {M : Type 1} → statement M
-run-settings-spec = tie.close (tie.spec settings-requires ended-requires returns)
+pub one-settings-spec : {M : Type 1} → statement M
+one-settings-spec = tie.close (tie.spec settings-requires ended-requires returns)
