@@ -1,6 +1,6 @@
 -- What a run is judged, and what it then is: refused, or ridden. And how far its start is.
 -- Assumes nothing.
-use Prim.Native.Nat.{ℕ, zero, suc, _-_, _≤_}
+use Prim.Native.Nat.{ℕ, _-_}
 use native.Mathlib.Omega.{arith}
 use mathlib.Core.Path.{_≡_, refl, sym, ap}
 use mathlib.Core.Bool.{Bool, true, false, cond}
@@ -13,7 +13,6 @@ use Rattle.settings.specs.declared.Verdict.{Verdict}
 use Rattle.settings.proofs.Numbered.{not-zero}
 use Rattle.checks.proofs.Numbers.{refused-accepted}
 use Rattle.checks.specs.Check.{verdictOf}
-use Rattle.rules.specs.Axis.{Axis}
 use Rattle.carriage.specs.declared.Rail.{Rail}
 use Rattle.carriage.specs.Rail.{railFits}
 use Rattle.carriage.proofs.Fitting.{Fitting}

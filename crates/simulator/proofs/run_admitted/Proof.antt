@@ -1,7 +1,6 @@
 -- `simulator::run_admitted` meets its contract.
 -- Assumes nothing.
 use Prim.Native.Nat.{_+_}
-use native.Mathlib.Omega.{arith}
 use mathlib.Core.Path.{sym, ap, _∙_}
 use mir.Facts.{toZ-ofZ}
 use Rattle.counts.proofs.Integers.{cast-fits, read-wide}
