@@ -1,6 +1,8 @@
 // Encoder counts and other whole numbers of the axis: wrapping difference and sum, pattern, clamp, a bit of a word.
 //
 // Counts are signed 32-bit and wrap around. Every function answers every value of its arguments.
+#![tactic(auto)]
+
 ghost use Rattle.std.specs.Prelude.{◌≡◌, ◌+ℤ◌, ◌-ℤ◌};
 ghost use Rattle.counts.specs.Wrap.{modulo, wrapped};
 ghost use Rattle.counts.specs.Movement.{movement_of};
