@@ -5,7 +5,7 @@ ghost use Rattle.answers.specs.Answer.{refused_answer, is_following};
 use position::Followed;
 use settings::Refusal;
 
-#[derive(Drop)]
+#[derive(Clone, Copy)]
 pub struct Answer {
     // 0, or why the tick is refused.
     pub number: u32,

@@ -31,7 +31,7 @@ use ticks::Tick;
 use torque::LimitSet;
 
 // The drive after a tick.
-#[derive(Drop)]
+#[derive(Clone, Copy)]
 struct Drive {
     state: State,
     // Modes of operation display (01: shown mode).
@@ -163,7 +163,7 @@ fn homing_after(axis: &mut Lent, t: Tick, switches: u32, on: bool) -> i32
 }
 
 // A commanded position, and whether its target was clamped.
-#[derive(Drop)]
+#[derive(Clone, Copy)]
 struct Place {
     position: i32,
     clamped: bool,

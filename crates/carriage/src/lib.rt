@@ -7,7 +7,7 @@ ghost use Rattle.carriage.specs.Rail.{sized, sizes_fit, ticks_fit, cam_fits, on_
 use legs::events::Switches;
 
 // All in cells.
-#[derive(Drop)]
+#[derive(Clone, Copy)]
 pub struct Rail {
     // POT is on from here on (02: L).
     pub length: u32,

@@ -9,26 +9,26 @@ use legs::events::Switches;
 use torque::LimitSet;
 
 // Values read, each of no meaning where the cursor is lost.
-#[derive(Drop)]
+#[derive(Clone, Copy)]
 pub struct SwitchesRead {
     pub value: Switches,
     pub cursor: Cursor,
 }
 
-#[derive(Drop)]
+#[derive(Clone, Copy)]
 pub struct ChoiceRead {
     pub value: bool,
     pub cursor: Cursor,
 }
 
-#[derive(Drop)]
+#[derive(Clone, Copy)]
 pub struct SetRead {
     pub value: LimitSet,
     pub cursor: Cursor,
 }
 
 // Switches as a word shows them, if it does.
-#[derive(Drop)]
+#[derive(Clone, Copy)]
 pub struct Shown {
     pub accepted: bool,
     pub switches: Switches,

@@ -6,7 +6,7 @@ use hybrid::Hybrid;
 use modes::Mode;
 
 // Each tick carries one. Requests are torques in thousandths of the rated torque; a target is in user units.
-#[derive(Drop)]
+#[derive(Clone, Copy)]
 pub enum Command {
     Hybrid(Hybrid),
     Homing(i16),
@@ -16,7 +16,7 @@ pub enum Command {
 }
 
 // The torque that a command asks for: a request, or hybrid's quotient before it is made whole.
-#[derive(Drop)]
+#[derive(Clone, Copy)]
 pub enum Demand {
     Request(i16),
     Quotient(f32),

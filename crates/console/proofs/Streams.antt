@@ -9,7 +9,7 @@ use borrow.Author.Tests.{ltb-true, ltb-false, le-ltb}
 use lib.Dec.{eqb}
 use lib.ListN.{length, take, drop, length-drop, drop_of_length-le}
 use lib.Seq.{take-nil, drop-drop}
-use Rattle.bytes.specs.Bytes.{index_of, index_after}
+use Rattle.scan.specs.Bytes.{index_of, index_after}
 use Rattle.gather.specs.declared.Held.{Held}
 use Rattle.gather.specs.declared.Ended.{Ended}
 use Rattle.gather.specs.declared.Ended.TheVariants.{Text, TooLong}

@@ -3,7 +3,7 @@ ghost use Rattle.std.specs.Prelude.{◌≡◌};
 ghost use Rattle.control.specs.Control.{control_command_of, bit_rises};
 
 // What a control word asks of the drive; nothing where its bit 7, fault reset, is set.
-#[derive(Drop)]
+#[derive(Clone, Copy)]
 pub enum ControlCommand {
     Nothing,
     DisableVoltage,

@@ -10,7 +10,7 @@ ghost use Rattle.counts.specs.Clamp.{clamped};
 ghost use Rattle.counts.specs.Bit.{bit_of};
 
 // The sign of a movement.
-#[derive(Drop)]
+#[derive(Clone, Copy)]
 pub enum Movement {
     Backward,
     Still,

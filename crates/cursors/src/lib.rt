@@ -5,7 +5,7 @@ ghost use Rattle.cursors.specs.Cursor.{line_start, accept_of, refuse_of, judge_o
 use tokens::Span;
 
 // What a line was to have where it cannot be read further.
-#[derive(Drop)]
+#[derive(Clone, Copy)]
 pub enum Expected {
     Keyword,
     Digits,
@@ -20,7 +20,7 @@ pub enum Expected {
 }
 
 // Once a word is not accepted the cursor is lost: it stays at that word, with what was expected there.
-#[derive(Drop)]
+#[derive(Clone, Copy)]
 pub struct Cursor {
     pub at: usize,
     pub lost: bool,

@@ -8,7 +8,7 @@ use carriage::Rail;
 use simulator::{LegRun, Stop, Trace};
 
 // What stands in column 0, in the last column, and in those between, where no mark stands.
-#[derive(Drop)]
+#[derive(Clone, Copy)]
 struct Frame {
     left: u8,
     right: u8,
@@ -16,7 +16,7 @@ struct Frame {
 }
 
 // The body stands in each column between `from` and `to`, in either order; the head in `to`.
-#[derive(Drop)]
+#[derive(Clone, Copy)]
 struct Mark {
     from: u64,
     to: u64,
@@ -25,7 +25,7 @@ struct Mark {
 }
 
 // How far a drawing has come: where its text ends, and the cell that the carriage has reached.
-#[derive(Drop)]
+#[derive(Clone, Copy)]
 struct Drawn {
     end: usize,
     cell: i64,

@@ -4,7 +4,7 @@ use Rattle.std.proofs.Common.{◌≡◌, ℕ, suc, ◌+◌, ◌-◌, ◌*◌, �
 use native.Mathlib.Nat.{pow-le-pow_right}
 use borrow.Author.Tests.{not-true}
 use lib.Ieee.{nan, binary32, of_bits, of_fields, nan_bits, top, hid}
-use Rattle.bytes.specs.Bytes.{index_of}
+use Rattle.scan.specs.Bytes.{index_of}
 use Rattle.spelling.specs.declared.Number.TheVariants.{Value}
 use Rattle.spelling.specs.Spelling.{decimal_of, Below}
 use Rattle.spelling.proofs.Reach.{digits-below}

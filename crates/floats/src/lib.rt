@@ -6,7 +6,7 @@ ghost use Rattle.floats.specs.Literal.{eight_of, quotient_float, without_point, 
 use spelling::Number;
 
 // What some bytes spell.
-#[derive(Drop)]
+#[derive(Clone, Copy)]
 pub enum Float {
     Value(f32),
     Unreadable,

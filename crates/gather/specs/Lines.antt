@@ -1,7 +1,7 @@
 -- A line's bytes as they come, whatever the reads cut them into. docs/LINES.md: "What is left, blanks and comment included, is at most 255 bytes."
 -- Assumes nothing.
 use Rattle.std.specs.Prelude.{ℕ, ◌+◌, ◌-◌, ◌≤◌, min, Bool, cond, List, ◌≡◌, eqb, ltb, length, take, drop, get_or}
-use Rattle.bytes.specs.Bytes.{index_of}
+use Rattle.scan.specs.Bytes.{index_of}
 use Rattle.gather.specs.declared.Ended.{Ended}
 use Rattle.gather.specs.declared.Ended.TheVariants.{Text, TooLong}
 use Rattle.gather.specs.declared.Held.{Held}

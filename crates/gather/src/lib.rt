@@ -3,13 +3,13 @@ ghost use Rattle.std.specs.Prelude.{List, ◌∷◌, [], ◌++◌, ℕ, ◌<◌,
 ghost use Rattle.gather.specs.Lines.{Holds, part_of, ends_in, past_line, fitting_of, ended_in, InsideBuffer};
 
 // How many bytes of a line are held, and whether there were more than there is room for.
-#[derive(Drop)]
+#[derive(Clone, Copy)]
 pub struct Held {
     pub length: usize,
     pub over: bool,
 }
 
-#[derive(Drop)]
+#[derive(Clone, Copy)]
 pub struct Gathered {
     // One past the last byte that was taken.
     pub next: usize,
@@ -19,7 +19,7 @@ pub struct Gathered {
 }
 
 // A line that has ended, without a CR right before its end: its length, or that it is too long.
-#[derive(Drop)]
+#[derive(Clone, Copy)]
 pub enum Ended {
     Text(usize),
     TooLong,

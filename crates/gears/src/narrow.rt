@@ -7,7 +7,7 @@ ghost use Rattle.gears.specs.Narrow.{biased_of, held_product, narrowed, narrow_o
 
 use settings::Settings;
 
-#[derive(Drop)]
+#[derive(Clone, Copy)]
 pub enum Narrow {
     // The difference from the offset, or its product, does not fit 32 bits signed.
     TooWide,

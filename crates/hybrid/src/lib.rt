@@ -7,7 +7,7 @@ ghost use Rattle.counts.specs.Clamp.{clamped};
 ghost use Rattle.hybrid.specs.Hybrid.{quotient_of, finite, size_of, whole_part, saturated};
 
 // Gains, targets, feed-forward torque, and the actual position and speed: radians, radians a second, newton metres.
-#[derive(Drop)]
+#[derive(Clone, Copy)]
 pub struct Hybrid {
     // Stiffness and damping (01: KP, KD).
     pub kp: f32,

@@ -8,7 +8,7 @@ use native.Mathlib.Omega.{arith}
 use lib.Dec.{eqb}
 use lib.ListN.{length, take, drop, length-drop}
 use lib.Seq.{drop-drop, take-length}
-use Rattle.bytes.specs.Bytes.{index_of, index_after, slice}
+use Rattle.scan.specs.Bytes.{index_of, index_after}
 use Rattle.tokens.specs.Ascii.{same_of}
 use Rattle.keywords.specs.Keywords.{words_listed, which_of}
 
@@ -34,21 +34,16 @@ first-cut (b ∷ bs) h = go (eqb b 10) refl (first-cut bs) h
     go false e rest h = let k = rw e at h in rw (e, rest (omega (arith, k)))
 
 -- the place that a search for the next LF finds
-module _ (list : List ℕ) (start end : ℕ) (found : end ≡ start + index_of 10 (slice start (length list) list)) where
-  searched : end ≡ start + index_of 10 (drop start list)
-  unfolding slice
-  searched = found ∙ ap (λ t. start + index_of 10 (drop start t)) (take-length list)
-
+module _ (list : List ℕ) (start end : ℕ) (searched : end ≡ start + index_of 10 (drop start list)) where
   last-cut : length list ≤ end → words_listed (drop start list) ≡ []
-  last-cut h = let s = searched in let l = length-drop start list in no-lf (drop start list) (omega (arith, h, s, l))
+  last-cut h = let l = length-drop start list in no-lf (drop start list) (omega (arith, h, searched, l))
 
   cut : end < length list → words_listed (drop start list) ≡ take (end - start) (drop start list) ∷ words_listed (drop (end + 1) list)
   cut h =
-      let s = searched in
       let l = length-drop start list in
-      let i : index_of 10 (drop start list) ≡ end - start = omega (arith, s) in
-      let j : start + suc (end - start) ≡ end + 1 = omega (arith, s) in
-      first-cut (drop start list) (omega (arith, h, s, l)) ∙ rw (i, drop-drop (suc (end - start)) start list, j)
+      let i : index_of 10 (drop start list) ≡ end - start = omega (arith, searched) in
+      let j : start + suc (end - start) ≡ end + 1 = omega (arith, searched) in
+      first-cut (drop start list) (omega (arith, h, searched, l)) ∙ rw (i, drop-drop (suc (end - start)) start list, j)
 
   -- the number of a word in what is left
   module _ (word : List ℕ) where

@@ -9,7 +9,7 @@ pub fn which(word: &[u8], list: &[u8]) -> usize
     let mut number: usize = 0;
     let mut start: usize = 0;
     loop {
-        let end = bytes::scan::find(list, start, list.len(), b'\n');
+        let end = scan::find(list, start, b'\n');
         if end == list.len() {
             return number;
         }

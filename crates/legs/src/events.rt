@@ -7,7 +7,7 @@ ghost use Rattle.legs.specs.Events.{along, happens, limit_ahead, switches_in, vi
 use counts::Movement;
 
 // The four switches (01: POT, NOT, HOM, Z).
-#[derive(Drop)]
+#[derive(Clone, Copy)]
 pub struct Switches {
     pub positive: bool,
     pub negative: bool,
@@ -29,7 +29,7 @@ pub fn negative_on(switches: u32) -> bool
 }
 
 // What homing sees of one tick after the start (`View`), with the switches as bits.
-#[derive(Drop)]
+#[derive(Clone, Copy)]
 pub struct Seen {
     pub kept: bool,
     pub halted: bool,

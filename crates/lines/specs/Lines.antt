@@ -1,7 +1,7 @@
 -- What a line says: its first word tells which line it is, and one with no word is blank.
 -- Assumes nothing.
 use Rattle.std.specs.Prelude.{ℕ, ◌+◌, min, true, cond, List, [], ◌∷◌, eqb, length, take}
-use Rattle.bytes.specs.Bytes.{index_of}
+use Rattle.scan.specs.Bytes.{index_of}
 use Rattle.cursors.specs.Cursor.{line_start, accept_of, refuse_of, line_end}
 use Rattle.cursors.specs.declared.Cursor.{Cursor}
 use Rattle.cursors.specs.declared.Expected.TheVariants as expected

@@ -14,20 +14,20 @@ use sheets::Writing;
 use ticks::Tick;
 
 // A line that cannot be read: the column, from 1, and what was expected there.
-#[derive(Drop)]
+#[derive(Clone, Copy)]
 pub struct Trouble {
     pub column: usize,
     pub expected: Expected,
 }
 
 // A run, on the rail and under the settings that were told before: the start cell, and the ticks that it is given.
-#[derive(Drop)]
+#[derive(Clone, Copy)]
 pub struct Trial {
     pub start: i32,
     pub ticks: u32,
 }
 
-#[derive(Drop)]
+#[derive(Clone, Copy)]
 pub enum Line {
     Blank,
     Fresh,

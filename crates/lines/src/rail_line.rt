@@ -5,7 +5,7 @@ ghost use Rattle.lines.specs.Rails.{rail_read};
 use carriage::Rail;
 use cursors::Cursor;
 
-#[derive(Drop)]
+#[derive(Clone, Copy)]
 pub struct RailRead {
     pub rail: Rail,
     pub cursor: Cursor,

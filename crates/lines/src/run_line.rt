@@ -5,7 +5,7 @@ ghost use Rattle.lines.specs.Runs.{trial_read};
 use crate::Trial;
 use cursors::Cursor;
 
-#[derive(Drop)]
+#[derive(Clone, Copy)]
 pub struct TrialRead {
     pub trial: Trial,
     pub cursor: Cursor,

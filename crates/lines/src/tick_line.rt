@@ -5,7 +5,7 @@ ghost use Rattle.lines.specs.Ticks.{tick_read};
 use cursors::Cursor;
 use ticks::Tick;
 
-#[derive(Drop)]
+#[derive(Clone, Copy)]
 pub struct TickRead {
     pub tick: Tick,
     pub cursor: Cursor,

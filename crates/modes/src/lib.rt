@@ -5,7 +5,7 @@ ghost use Rattle.modes.specs.Modes.{mode_number, mode_ordinal, is_mode, shown_of
 use states::State;
 
 // Modes of operation. None: what a fresh axis shows, and what a command asks for that has no mode.
-#[derive(Drop)]
+#[derive(Clone, Copy)]
 pub enum Mode {
     None,
     Hybrid,

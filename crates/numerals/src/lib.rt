@@ -6,7 +6,7 @@ ghost use Rattle.spelling.specs.Spelling.{Below};
 
 use spelling::Number;
 
-#[derive(Drop)]
+#[derive(Clone, Copy)]
 pub enum Whole {
     Value(i32),
     Unreadable,

@@ -7,7 +7,7 @@ use commands::Command;
 use cursors::{Cursor, Expected};
 use hybrid::Hybrid;
 
-#[derive(Drop)]
+#[derive(Clone, Copy)]
 pub struct CommandRead {
     pub command: Command,
     pub cursor: Cursor,

@@ -1,7 +1,7 @@
 -- A list of phrases as one text: each phrase goes up to and with its LF.
 -- Assumes nothing.
 use Rattle.std.specs.Prelude.{ℕ, zero, suc, ◌+◌, ◌-◌, min, List, length, take, drop}
-use Rattle.bytes.specs.Bytes.{index_of}
+use Rattle.scan.specs.Bytes.{index_of}
 
 -- one past the phrase that starts at `from`
 abbrev pub past_of : List ℕ → ℕ → ℕ

@@ -25,7 +25,7 @@ fn past(list: &[u8], from: usize) -> usize
     ensures lower_bound { from ≤ result }
     ensures upper_bound { result ≤ length list.now }
 {
-    let end = bytes::scan::find(list, from, list.len(), b'\n');
+    let end = scan::find(list, from, b'\n');
     if end < list.len() { end + 1 } else { end }
 }
 

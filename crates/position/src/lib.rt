@@ -8,7 +8,7 @@ use settings::Settings;
 use states::State;
 
 // The target that a tick follows, in user units.
-#[derive(Drop)]
+#[derive(Clone, Copy)]
 pub enum Followed {
     Target(i32),
     Nothing,

@@ -13,19 +13,19 @@ use spelling::Number;
 use tokens::Span;
 
 // Values read, each of no meaning where the cursor is lost.
-#[derive(Drop)]
+#[derive(Clone, Copy)]
 pub struct NumberRead {
     pub value: u32,
     pub cursor: Cursor,
 }
 
-#[derive(Drop)]
+#[derive(Clone, Copy)]
 pub struct WholeRead {
     pub value: i32,
     pub cursor: Cursor,
 }
 
-#[derive(Drop)]
+#[derive(Clone, Copy)]
 pub struct FloatRead {
     pub value: f32,
     pub cursor: Cursor,

@@ -12,7 +12,7 @@ use settings::Settings;
 use simulator::Trace;
 use ticks::Tick;
 
-#[derive(Drop)]
+#[derive(Clone, Copy)]
 pub struct Session {
     // The axis's words.
     pub axis: Lent,
@@ -24,7 +24,7 @@ pub struct Session {
 }
 
 // A session after a line, and the length of the answer on the page; 0 where the line gets none.
-#[derive(Drop)]
+#[derive(Clone, Copy)]
 pub struct Turn {
     pub session: Session,
     pub length: usize,

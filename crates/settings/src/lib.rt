@@ -7,7 +7,7 @@ ghost use Rattle.settings.specs.Refusal.{number_of, verdict_number};
 pub mod fields;
 
 // Settings of one axis, by CiA 402's names. Positions are in user units, torques in thousandths of the rated torque.
-#[derive(Drop)]
+#[derive(Clone, Copy)]
 pub struct Settings {
     // Homing method.
     pub method: u32,
@@ -38,7 +38,7 @@ pub struct Settings {
 }
 
 // Why a settings word, settings, a tick, a lent buffer or a run on a rail is refused (01: refused words, ticks and buffers; 02).
-#[derive(Drop)]
+#[derive(Clone, Copy)]
 pub enum Refusal {
     OutOfSequence,
     UnknownLayout,
@@ -54,7 +54,7 @@ pub enum Refusal {
     RailUnfit,
 }
 
-#[derive(Drop)]
+#[derive(Clone, Copy)]
 pub enum Verdict {
     Accepted,
     Refused(Refusal),

@@ -8,27 +8,27 @@ use scanner::NumberRead;
 use settings::Settings;
 
 // Settings to be written in a layout, known or not, to a buffer of `length` words.
-#[derive(Drop)]
+#[derive(Clone, Copy)]
 pub struct Writing {
     pub layout: u32,
     pub length: u32,
     pub settings: Settings,
 }
 
-#[derive(Drop)]
+#[derive(Clone, Copy)]
 pub struct WritingRead {
     pub writing: Writing,
     pub cursor: Cursor,
 }
 
-#[derive(Drop)]
+#[derive(Clone, Copy)]
 pub struct SettingsRead {
     pub settings: Settings,
     pub cursor: Cursor,
 }
 
 // Parts of settings, each of no meaning where the cursor is lost.
-#[derive(Drop)]
+#[derive(Clone, Copy)]
 pub struct HomingRead {
     pub method: u32,
     pub fast: u32,
@@ -37,7 +37,7 @@ pub struct HomingRead {
     pub cursor: Cursor,
 }
 
-#[derive(Drop)]
+#[derive(Clone, Copy)]
 pub struct TravelRead {
     pub numerator: u32,
     pub denominator: u32,
@@ -46,7 +46,7 @@ pub struct TravelRead {
     pub cursor: Cursor,
 }
 
-#[derive(Drop)]
+#[derive(Clone, Copy)]
 pub struct TorquesRead {
     pub maximum: u32,
     pub positive1: u32,

@@ -16,7 +16,7 @@ use ticks::Tick;
 use torque::LimitSet;
 
 // What stopped a run; a refused one has none.
-#[derive(Drop)]
+#[derive(Clone, Copy)]
 pub enum Stop {
     None,
     Homed,
@@ -24,7 +24,7 @@ pub enum Stop {
     Ticks,
 }
 
-#[derive(Drop)]
+#[derive(Clone, Copy)]
 pub struct Outcome {
     // 0, or the refusal's.
     pub number: u32,
@@ -34,7 +34,7 @@ pub struct Outcome {
 }
 
 // A leg of a run: the ticks that it ran, and the cell where it ended.
-#[derive(Drop)]
+#[derive(Clone, Copy)]
 pub struct LegRun {
     // This leg and those after it, as `legs` numbers them.
     pub route: u32,
@@ -43,7 +43,7 @@ pub struct LegRun {
 }
 
 // A run and its legs, in their order: no route has more than four. A leg with no tick did not run.
-#[derive(Drop)]
+#[derive(Clone, Copy)]
 pub struct Trace {
     pub outcome: Outcome,
     pub first: LegRun,
@@ -53,7 +53,7 @@ pub struct Trace {
 }
 
 // A stretch: its ticks, and the cell that it led to.
-#[derive(Drop)]
+#[derive(Clone, Copy)]
 struct Progress {
     ticks: u32,
     cell: i64,

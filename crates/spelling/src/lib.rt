@@ -3,7 +3,7 @@ ghost use Rattle.std.specs.Prelude.{◌≤◌, ◌^◌, ◌≡◌};
 ghost use Rattle.spelling.specs.Spelling.{digit_value, spelled_of, decimal_of, Below};
 
 // What some bytes spell.
-#[derive(Drop)]
+#[derive(Clone, Copy)]
 pub enum Number {
     Value(u64),
     Unreadable,

@@ -4,7 +4,7 @@ ghost use Rattle.states.specs.Alarm.{alarm_number_of, enters, latched_of};
 ghost use Rattle.states.specs.States.{state_number, is, live_of};
 ghost use Rattle.states.specs.Status.{status_of};
 
-#[derive(Drop)]
+#[derive(Clone, Copy)]
 pub enum State {
     NotReady,
     SwitchOnDisabled,

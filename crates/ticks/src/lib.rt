@@ -13,7 +13,7 @@ use states::State;
 use torque::LimitSet;
 
 // The inputs of one tick.
-#[derive(Drop)]
+#[derive(Clone, Copy)]
 pub struct Tick {
     pub control: u16,
     pub command: Command,

@@ -1,11 +1,11 @@
 // Words of a text: what stands between blanks.
 ghost use Rattle.std.specs.Prelude.{◌≤◌, min, ◌≡◌, length};
-ghost use Rattle.bytes.specs.Bytes.{index_of};
+ghost use Rattle.scan.specs.Bytes.{index_of};
 ghost use Rattle.tokens.specs.Ascii.{same_of};
 ghost use Rattle.tokens.specs.Words.{blank_of, blank_is, skip_of, next_word, SpanIn};
 
 // The place of a word: its first byte, and one past its last.
-#[derive(Drop)]
+#[derive(Clone, Copy)]
 pub struct Span {
     pub start: usize,
     pub end: usize,
@@ -59,7 +59,7 @@ pub fn find(text: &[u8], byte: u8) -> usize
     ensures value { result ≡ index_of byte text.now }
     ensures upper_bound { result ≤ length text.now }
 {
-    bytes::scan::find(text, 0, text.len(), byte)
+    scan::find(text, 0, byte)
 }
 
 pub fn same(a: &[u8], b: &[u8]) -> bool

@@ -10,14 +10,14 @@ use modes::Mode;
 use settings::Settings;
 
 // The choice of a tick between the two sets of torque limits.
-#[derive(Drop)]
+#[derive(Clone, Copy)]
 pub enum LimitSet {
     Set1,
     Set2,
 }
 
 // Bounds of a torque, negative and positive, in thousandths of the rated torque.
-#[derive(Drop)]
+#[derive(Clone, Copy)]
 pub struct Bounds {
     pub low: i32,
     pub high: i32,

@@ -8,7 +8,7 @@ use native.Mathlib.Omega.{arith}
 use borrow.Author.Rules.{rules}
 use borrow.Author.Tests.{lt-ltb, le-ltb}
 use lib.ListN.{length, take, drop, length-drop}
-use Rattle.bytes.specs.Bytes.{index_of}
+use Rattle.scan.specs.Bytes.{index_of}
 use Rattle.gather.specs.Lines.{Holds}
 use Rattle.gather.proofs.Parts.{at-lf, before-lf, no_more, one_more, none_yet}
 use Rattle.gather.proofs.take.Statement.{statement}
