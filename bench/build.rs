@@ -1,6 +1,6 @@
-//! Where `rt staticlib exports` writes the proved library.
+//! Where `rt lib`, in crates/exports, writes the proved library.
 fn main() {
-    let library = "../target/staticlib";
+    let library = "../crates/exports/out";
     println!("cargo:rustc-link-search=native={library}");
     println!("cargo:rerun-if-changed={library}/libexports.a");
 }

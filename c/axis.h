@@ -1,4 +1,4 @@
-/* One axis, and the writer of its settings, for C99 and C++11. Link with libexports.a (`rt staticlib exports`), which is for x86-64.
+/* One axis, and the writer of its settings, for C99 and C++11. Link with libexports.a (`rt lib` in crates/exports), which is for x86-64.
  *
  * An axis lives in AXIS_WORDS words that you lend to each call; nothing of it is kept elsewhere. Make it fresh once, feed it the settings words
  * that axis_write made, in their order, and tick it once a cycle; words and ticks may come in any order.
