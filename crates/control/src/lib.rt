@@ -1,4 +1,6 @@
 // The control word (CiA 402): what it asks of the drive, and the rise of a bit.
+#![tactic(auto)]
+
 ghost use Rattle.std.specs.Prelude.{◌≡◌};
 ghost use Rattle.control.specs.Control.{control_command_of, bit_rises};
 

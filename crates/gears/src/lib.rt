@@ -1,4 +1,6 @@
 // The gear: user units to counts, and whether the position limits are in reach (01: refusal 6).
+#![tactic(auto)]
+
 pub mod narrow;
 
 ghost use Rattle.std.specs.Prelude.{◌≡◌, ◌/◌, ◌%◌, ◌^◌, ◌≤◌, ◌<◌, min};

@@ -1,6 +1,8 @@
 // The hybrid command (01: "Hybrid"): seven single floats and the rated torque give a torque demand.
 //
 // Every function answers every value of its arguments, NaNs and infinities too. Nothing is flushed to zero.
+#![tactic(auto)]
+
 ghost use Rattle.std.specs.Prelude.{◌≡◌, ◌-◌, ◌^◌, ◌≤◌, min, true, pos, neg_ℤ, if◌then◌else◌, from_bits};
 ghost use Rattle.std.specs.Float.{binary32};
 ghost use Rattle.counts.specs.Clamp.{clamped};

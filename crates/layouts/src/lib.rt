@@ -1,4 +1,6 @@
 // The layouts of settings words (02, (iv) and (v)): which there are, how many words each has, and which settings it holds.
+#![tactic(auto)]
+
 ghost use Rattle.std.specs.Prelude.{◌≡◌};
 ghost use Rattle.counts.specs.Fits.{fits};
 ghost use Rattle.layouts.specs.Layout.{is_layout, size, carries_homing_torque, long_value, homing_torque_lost};

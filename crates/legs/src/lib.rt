@@ -2,6 +2,8 @@
 //
 // A leg is a byte: the place of its switch (0 POT, 1 NOT, 2 HOM, 3 Z), 4 more if it awaits the drop, 8 more if it goes forward, 16 more if it is
 // fast, 32 more if a limit turns it to route b, 64 more if the switch need only be on. A route is a number: a byte for each leg, the first lowest.
+#![tactic(auto)]
+
 pub mod events;
 
 ghost use Rattle.std.specs.Prelude.{◌<◌, ◌^◌, ◌≡◌};

@@ -1,4 +1,6 @@
 // Modes of operation: what a command asks for, which mode the drive shows, and whether the command is matched.
+#![tactic(auto)]
+
 ghost use Rattle.std.specs.Prelude.{◌≡◌};
 ghost use Rattle.modes.specs.Modes.{mode_number, mode_ordinal, is_mode, shown_of, matched_of};
 

@@ -1,4 +1,6 @@
 // Text appended to a page at a place; the place after it is answered. What does not fit is cut off.
+#![tactic(auto)]
+
 ghost use Rattle.std.specs.Prelude.{◌∷◌, []};
 ghost use Rattle.page.specs.Page.{Printed};
 

@@ -1,4 +1,6 @@
 // The range of each single field of the settings (01: the sheet, refusal 3).
+#![tactic(auto)]
+
 ghost use Rattle.std.specs.Prelude.{◌≡◌};
 ghost use Rattle.counts.specs.Between.{between};
 ghost use Rattle.ranges.specs.Range.{method_ok, speed_ok, ratio_ok, torque_ok, option_ok, rated_ok};

@@ -1,6 +1,8 @@
 // The settings of an axis (01: the sheet), whether every field is in its range, and all refusals by number.
 //
 // Settings are plain data: every value of every field is answered, and only `checks::check` says whether they may be used.
+#![tactic(auto)]
+
 ghost use Rattle.std.specs.Prelude.{◌≡◌};
 ghost use Rattle.settings.specs.Refusal.{number_of, verdict_number};
 

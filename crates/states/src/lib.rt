@@ -1,4 +1,6 @@
 // The drive's states (CiA 402), the statusword's bits that they show, and the alarm number.
+#![tactic(auto)]
+
 ghost use Rattle.std.specs.Prelude.{◌≡◌};
 ghost use Rattle.states.specs.Alarm.{alarm_number_of, enters, latched_of};
 ghost use Rattle.states.specs.States.{state_number, is, live_of};

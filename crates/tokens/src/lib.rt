@@ -1,4 +1,6 @@
 // Words of a text: what stands between blanks.
+#![tactic(auto)]
+
 ghost use Rattle.std.specs.Prelude.{◌≤◌, min, ◌≡◌, length};
 ghost use Rattle.scan.specs.Bytes.{index_of};
 ghost use Rattle.tokens.specs.Ascii.{same_of};
