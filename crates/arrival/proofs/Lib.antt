@@ -8,3 +8,4 @@ pub mod Runs
 pub mod Stages
 pub mod InPlace
 pub mod Legs
+pub mod Examples

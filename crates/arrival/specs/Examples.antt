@@ -140,7 +140,7 @@ last =
 abbrev unfit : Rail → ℤ → ℕ → Bool
 unfit r start n = is_refused 12 (run_of r (sheet 35) start n) && is_refused 12 (run_of r out_of_range start n)
 
-abbrev fits : Rail → ℤ → ℕ → Bool
+abbrev pub fits : Rail → ℤ → ℕ → Bool
 fits r start n = comes_to (run_of r (sheet 35) start n) 0 1 stop.Homed && is_refused 3 (run_of r out_of_range start n)
 
 abbrev pub refusals : List Bool
@@ -168,10 +168,3 @@ refusals =
     ∷ rail_fits paper (pos 0) 16777216
     ∷ not (rail_fits paper (pos 0) 16777217)
     ∷ []
-
-roomy_paper : Roomy paper
-roomy_paper = record { slower = omega arith; on_cam = omega arith; before_cam = omega arith; after_cam = omega arith }
-
-holds : (all in_time ≡ true) × (all others ≡ true) × (all needed ≡ true) × (all last ≡ true) × (all refusals ≡ true)
-unfolding run_of rail_fits sizes_fit sized ticks_fit cam_fits on_rail switches_at stride_of modulo signed wrapped floor_div clamped geared_of verdict_of limits_verdict in_range positions_fit counts.fits option_with_homing_ok values_of total checksum_of position_from settings_of field_ok start_read field_read end_verdict end_read read_of control_command_of next_state event_counts limit_counts row_of main_route turn_route skip_route skips start_route steps.running_of steps.start_of answered_in word_of new_phase tick_of in_reach method_ok words_from words_of
-holds = (refl, refl, refl, refl, refl)

@@ -6,3 +6,4 @@ pub mod Acceptable
 pub mod Whole
 pub mod Written
 pub mod Came
+pub mod Examples

@@ -191,7 +191,3 @@ readings =
     ∷ started (known (enabled ++ start 100 off ∷ [])).since
     ∷ not (started (known (enabled ++ start 100 off ∷ still_tick 0x0000 Rest ∷ with 1 35)).since)
     ∷ []
-
-holds : (all table ≡ true) × (all further ≡ true) × (all long_rails ≡ true) × (all homing_torques ≡ true) × (all readings ≡ true)
-unfolding table further long_rails homing_torques readings words_S words_S_2 words_S_3 settings_S modulo signed wrapped fits floor_div clamped method_ok positions_fit in_range geared_of in_reach limits_verdict verdict_of acceptable write_verdict values_of total checksum_of words_from words_of latest position_from settings_of option_with_homing_ok field_ok start_read field_read end_verdict end_read read_of control_command_of next_state least_set alarm_number_of quotient_of size_of negative whole_part of_bits sub mul div of_int event_counts limit_counts row_of main_route turn_route skip_route skips start_route steps.running_of steps.start_of signed_of cap_of torque_of count_of statusword_of answer_in answered_in word_of new_phase tick_of completed_by with_bit31
-holds = (refl, refl, refl, refl, refl)

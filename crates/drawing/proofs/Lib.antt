@@ -1,3 +1,4 @@
 mod Cells
 pub mod Fits
 pub mod Placed
+pub mod Examples

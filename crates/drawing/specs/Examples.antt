@@ -28,7 +28,8 @@ homed =
       fourth = leg 0x06 4 (pos 4);
     }
 
-pub of_the_document :
+abbrev pub OfTheDocument : Type 0
+OfTheDocument =
     picture_text short (pos 19) homed
     ≡ ascii "N.....###............P cells 20\n"
     ++ ascii "|                   S| start 19\n"
@@ -37,8 +38,6 @@ pub of_the_document :
     ++ ascii "|       ->           | +S ticks 1\n"
     ++ ascii "|    <----           | -S ticks 4\n"
     ++ ascii "|    H               | home 4\n"
-unfolding column_of glyph_at glyphs leg_row ended_at digits wrapped modulo signed
-of_the_document = refl
 
 -- ten cells in a column; one leg ran, to a cell below 0
 abbrev long : Rail
@@ -54,11 +53,10 @@ stopped =
       fourth = leg 0 0 (pos 0);
     }
 
-pub of_a_long_rail :
+abbrev pub OfALongRail : Type 0
+OfALongRail =
     picture_text long (pos 110) stopped
     ≡ ascii "N..........###.............................................P cells 580\n"
     ++ ascii "|           S                                              | start 110\n"
     ++ ascii "<============                                              | -F ticks 16\n"
     ++ ascii "T                                                          | stopped -2\n"
-unfolding column_of glyph_at glyphs leg_row ended_at digits wrapped modulo signed
-of_a_long_rail = refl

@@ -5,3 +5,4 @@ pub mod Routes
 pub mod Leg
 pub mod Rehearsals
 pub mod Examples
+pub mod Tables

@@ -68,7 +68,7 @@ same_answers (x ∷ xs) [] = false
 same_answers (x ∷ xs) (y ∷ ys) = same_answer x y && same_answers xs ys
 
 -- S with other units: offset, lower and upper stop, and a gear
-abbrev with_units : ℤ → ℤ → ℤ → ℕ → ℕ → Settings
+abbrev pub with_units : ℤ → ℤ → ℤ → ℕ → ℕ → Settings
 with_units offset lower upper numerator denominator = settings_from offset lower upper 2 1000 (data_with ((5, numerator) ∷ (6, denominator) ∷ []))
 
 -- S with other data of a kind that is one number or one set of limits (1, 2, 3, 9, 10, 11, 13)
@@ -86,14 +86,14 @@ with_homing_torque homing = settings_from (pos 0) (minus 1000) (pos 1000) 2 homi
 abbrev standing : Motion
 standing = fed (driven fresh_motion OperationEnabled mode.Homing 0) 0x000F off (pos 100)
 
-abbrev homed : Motion
+abbrev pub homed : Motion
 homed = phased standing Homed
 
 -- in the first leg of method 23, bit 4 remembered
-abbrev running : Motion
+abbrev pub running : Motion
 running = phased (fed standing 0x001F off (pos 100)) (Running (main_route 23))
 
-abbrev axis : Active → Pending → Motion → Axis
+abbrev pub axis : Active → Pending → Motion → Axis
 axis active pending motion = record { active = active; pending = pending; motion = motion }
 
 -- nothing pending
@@ -107,55 +107,15 @@ route = take 5 rehearsed
 -- ---- axes that are alike
 
 -- two rehearsals: another gear, offset, lower and upper stop; and another home, and words pending
-abbrev one : Motion → Axis
+abbrev pub one : Motion → Axis
 one motion = under settings_S motion
 
-abbrev other : Motion → Axis
+abbrev pub other : Motion → Axis
 other motion = axis (Set (with_units (minus 40) (minus 3000) (pos 250) 7 5)) (record { count = 2; values = 1 ∷ 35 ∷ replicate 13 0 }) (home_at motion (pos 777))
 
 -- settings that no sheet has: stops crossed, an offset of 2 ^ 40, a gear of 0 over 0
-abbrev odd : Motion → Axis
+abbrev pub odd : Motion → Axis
 odd motion = under (with_units (pos (2 ^ 40)) (pos 1) (pos 0) 0 0) (home_at motion (minus 1))
-
--- whatever the motion is, units, home and what is pending leave unchanged all that the theorem asks for
-any_units : (m : Motion) (offset lower upper : ℤ) (numerator denominator : ℕ) (pending : Pending) (home : ℤ)
-    → Alike (one m) (axis (Set (with_units offset lower upper numerator denominator)) pending (home_at m home))
-unfolding words_S settings_S
-any_units m offset lower upper numerator denominator pending home =
-    record {
-      others =
-          record {
-            settings =
-                record {
-                  method = refl;
-                  fast = refl;
-                  slow = refl;
-                  maximum = refl;
-                  positive1 = refl;
-                  negative1 = refl;
-                  positive2 = refl;
-                  negative2 = refl;
-                  option = refl;
-                  rated = refl;
-                  homing = refl;
-                };
-            drive =
-                record {
-                  state = refl;
-                  mode = refl;
-                  alarm = refl;
-                  control = refl;
-                  switches = refl;
-                  position = refl;
-                };
-            homed = refl;
-            error = refl;
-          };
-      leg = refl;
-    }
-
-pairs_alike : (m : Motion) → Alike (one m) (other m) × Alike (one m) (odd m)
-pairs_alike m = (any_units m _ _ _ _ _ _ _, any_units m _ _ _ _ _ _ _)
 
 -- the words of the settings of `other`
 abbrev words_other : List ℕ
@@ -217,15 +177,11 @@ abbrev disabled : Motion
 disabled = driven homed SwitchOnDisabled mode.Homing 0
 
 -- the leg of `running` with none after it; and where no limit turns it
-abbrev alone : ℕ
+abbrev pub alone : ℕ
 alone = main_route 23 % 256
 
-abbrev unturned : ℕ
+abbrev pub unturned : ℕ
 unturned = main_route 23 - 32
-
-same_leg : (running_leg running.phase ≡ running_leg (Running alone)) × (running_leg running.phase ≡ running_leg (Running unturned))
-unfolding row_of main_route
-same_leg = (refl, refl)
 
 unfoldable pub differing : List Bool
 differing =
@@ -278,7 +234,3 @@ differing =
     -- a takeover, on one side, of S itself
     ∷ differ (answers_from (one disabled) (S ++ still_tick 0x0000 Rest ∷ [])) (answers_from (one disabled) (still_tick 0x0000 Rest ∷ []))
     ∷ []
-
-holds : (all alike ≡ true) × (all differing ≡ true)
-unfolding alike differing words_S settings_S modulo signed wrapped floor_div clamped geared_of limits_verdict total checksum_of position_from settings_of field_ok start_read field_read end_verdict end_read read_of control_command_of next_state quotient_of size_of negative whole_part of_bits sub mul div of_int event_counts limit_counts row_of main_route turn_route skips start_route steps.running_of steps.start_of signed_of cap_of torque_of count_of statusword_of answer_in answered_in word_of new_phase tick_of in_reach method_ok words_from
-holds = (refl, refl)
