@@ -33,7 +33,7 @@ use Rattle.simulator.specs.declared.Stop.TheVariants as stop
 use Rattle.simulator.specs.declared.Outcome.{Outcome}
 use Rattle.simulator.specs.Run.{run_of}
 use Rattle.arrival.specs.Homes.{Roomy, bound}
-use Rattle.arrival.specs.Examples.{paper, in_time, others, needed, last, fits, refusals}
+use Rattle.arrival.specs.Examples.{paper, in_time, others, needed, last, refusals}
 
 pub roomy_paper : Roomy paper
 roomy_paper = record { slower = omega arith; on_cam = omega arith; before_cam = omega arith; after_cam = omega arith }

@@ -140,7 +140,7 @@ last =
 abbrev unfit : Rail → ℤ → ℕ → Bool
 unfit r start n = is_refused 12 (run_of r (sheet 35) start n) && is_refused 12 (run_of r out_of_range start n)
 
-abbrev pub fits : Rail → ℤ → ℕ → Bool
+abbrev fits : Rail → ℤ → ℕ → Bool
 fits r start n = comes_to (run_of r (sheet 35) start n) 0 1 stop.Homed && is_refused 3 (run_of r out_of_range start n)
 
 abbrev pub refusals : List Bool

@@ -46,7 +46,7 @@ use Rattle.demands.specs.Replies.{replies_from}
 use Rattle.demands.specs.Sheet.{words_S, settings_S, data_with, S_with}
 use Rattle.demands.specs.Lists.{off, HOM, POT, still_tick, moving_tick, ask, ask_in, hybrid, at, target, rehearsed, S, enabling, enabled, number, speed, status, same_counts}
 use Rattle.independence.specs.Alike.{Alike, answers_from}
-use Rattle.independence.specs.Examples.{with_units, homed, running, axis, one, other, odd, alike, alone, unturned, differing}
+use Rattle.independence.specs.Examples.{with_units, running, axis, one, other, odd, alike, alone, unturned, differing}
 
 -- whatever the motion is, units, home and what is pending leave unchanged all that the theorem asks for
 pub any_units : (m : Motion) (offset lower upper : ℤ) (numerator denominator : ℕ) (pending : Pending) (home : ℤ)

@@ -86,7 +86,7 @@ with_homing_torque homing = settings_from (pos 0) (minus 1000) (pos 1000) 2 homi
 abbrev standing : Motion
 standing = fed (driven fresh_motion OperationEnabled mode.Homing 0) 0x000F off (pos 100)
 
-abbrev pub homed : Motion
+abbrev homed : Motion
 homed = phased standing Homed
 
 -- in the first leg of method 23, bit 4 remembered
