@@ -1,4 +1,6 @@
 // The command of a tick: the mode, the target and the torque that it asks for.
+#![tactic(auto)]
+
 ghost use Rattle.std.specs.Prelude.{◌≡◌};
 ghost use Rattle.commands.specs.Commands.{mode_of, target_in, demand_of, with_bit31, alarm_of};
 

@@ -1,4 +1,6 @@
 // A place in a line's text, moved on word by word.
+#![tactic(auto)]
+
 ghost use Rattle.std.specs.Prelude.{◌≡◌};
 ghost use Rattle.cursors.specs.Cursor.{line_start, accept_of, refuse_of, judge_of, at_end, line_end};
 

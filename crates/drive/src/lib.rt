@@ -1,4 +1,6 @@
 // The drive's state machine (CiA 402): the state after a tick.
+#![tactic(auto)]
+
 ghost use Rattle.std.specs.Prelude.{◌≡◌, cond};
 ghost use Rattle.drive.specs.Transitions.{asks, from_state, bullets, standstill_of, quick_stop_of, quiet_of, next_state};
 ghost use Rattle.control.specs.Control.{control_command_of};

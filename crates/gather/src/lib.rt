@@ -1,4 +1,6 @@
 // A line's bytes as they come, whatever the reads cut them into.
+#![tactic(auto)]
+
 ghost use Rattle.std.specs.Prelude.{List, ◌∷◌, [], ◌++◌, ℕ, ◌<◌, ◌≡◌, length};
 ghost use Rattle.gather.specs.Lines.{Holds, part_of, ends_in, past_line, fitting_of, ended_in, InsideBuffer};
 

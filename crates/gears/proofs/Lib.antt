@@ -6,3 +6,4 @@ pub mod Reach
 pub mod Same
 pub mod Signs
 pub mod Units
+pub mod Examples

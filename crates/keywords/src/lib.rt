@@ -1,4 +1,6 @@
 // Which of a list of words a word is.
+#![tactic(auto)]
+
 ghost use Rattle.std.specs.Prelude.{◌≡◌};
 ghost use Rattle.keywords.specs.Keywords.{words_listed, which_of};
 

@@ -1,4 +1,6 @@
 // What data each kind of settings word may carry in a layout.
+#![tactic(auto)]
+
 ghost use Rattle.std.specs.Prelude.{◌≡◌};
 ghost use Rattle.kinds.specs.Fields.{torque_limits_ok, option_data_ok, field_ok};
 
@@ -20,6 +22,7 @@ fn option_data_ok(layout: u32, value: u32) -> bool
 }
 
 // A start word's data, kind 0, is the layout itself; `axis` asks for that before a layout is known.
+#[tactic(auto, unfolding(crate::specs::Fields::field_ok))]
 pub fn field_ok(layout: u32, kind: u32, value: u32) -> bool
     ensures { result ≡ field_ok layout kind value }
 {

@@ -1,4 +1,6 @@
 // Whole numbers as text, in ASCII: decimal digits under a limit, or with a sign.
+#![tactic(auto)]
+
 ghost use Rattle.std.specs.Prelude.{◌≤◌, ◌^◌, ◌≡◌, pos, neg_ℤ};
 ghost use Rattle.numerals.specs.Limits.{below_of, unsigned32_of, length_of};
 ghost use Rattle.numerals.specs.Signs.{unsigned_whole, negated_whole, signed_whole, Within};

@@ -1,4 +1,6 @@
 // What digits spell, in ASCII.
+#![tactic(auto)]
+
 ghost use Rattle.std.specs.Prelude.{◌≤◌, ◌^◌, ◌≡◌};
 ghost use Rattle.spelling.specs.Spelling.{digit_value, spelled_of, decimal_of, Below};
 
