@@ -1,4 +1,6 @@
 // What an acceptable set of settings is, and why one is refused (01: refusals 3, 5 and 6).
+#![tactic(auto)]
+
 ghost use Rattle.std.specs.Prelude.{◌≡◌};
 ghost use Rattle.checks.specs.Check.{limits_apart, limits_verdict, verdict_of};
 

@@ -1,4 +1,6 @@
 // Numbers printed on a page.
+#![tactic(auto)]
+
 ghost use Rattle.std.specs.Prelude.{◌≤◌, ◌<◌, ◌≡◌};
 ghost use Rattle.numerals.specs.Writing as writing;
 ghost use Rattle.page.specs.Page.{Printed};

@@ -119,7 +119,7 @@ module _ (m : ℕ) where
 
   pub all_same : {p : Phase} {q : Progress} → Same m p q → (vs : List View) → Same m (step_all p m vs) (advance_all q vs)
   all_same s [] = s
-  all_same s (v ∷ vs) = all_same (step_same s v) vs
+  all_same {p = p} {q = q} s (v ∷ vs) = all_same {p = step_of p m v} {q = advance q v} (step_same s v) vs
 
   pub start-same : (s : Switches) → Same m (start_of m s) (started (plan_of m s))
   unfolding start_of start_route skips

@@ -1,4 +1,6 @@
 // Homing (01: "Homing routes"): where it stands after a tick.
+#![tactic(auto)]
+
 ghost use Rattle.std.specs.Prelude.{◌<◌, ◌^◌, ◌≡◌, true};
 ghost use Rattle.legs.specs.Events.{switches_in, view_of};
 ghost use Rattle.homing.specs.Phase.{phase_of, homed_in, running_in, failed_in};

@@ -1,5 +1,7 @@
 // 32-bit words read as signed numbers, switches, the drive's states and modes. Every word means one of each. Back again:
 // `counts::pattern`, `switch_bits`, `states::state_number`, `modes::ordinal`.
+#![tactic(auto)]
+
 ghost use Rattle.std.specs.Prelude.{◌≡◌, ◌≤◌, pos};
 ghost use Rattle.counts.specs.Wrap.{wrapped};
 ghost use Rattle.legs.specs.Events.{switches_in};

@@ -1,4 +1,6 @@
 // Parts of an answer: a number after its name, and one of a list of phrases.
+#![tactic(auto)]
+
 ghost use Rattle.std.specs.Prelude.{◌≤◌, ◌++◌, ◌≡◌, length};
 ghost use Rattle.numerals.specs.Writing as writing;
 ghost use Rattle.page.specs.Page.{Printed};

@@ -1,4 +1,6 @@
 // The position that a tick commands: the followed target as a count, or the actual position.
+#![tactic(auto)]
+
 ghost use Rattle.std.specs.Prelude.{◌≡◌};
 ghost use Rattle.position.specs.Position.{followed_of, count_of, position_of, outside_of, clamped_of};
 

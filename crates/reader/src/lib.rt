@@ -1,4 +1,6 @@
 // Reading settings words: which kind is due, and what an end word meets.
+#![tactic(auto)]
+
 ghost use Rattle.std.specs.Prelude.{◌≡◌};
 ghost use Rattle.reader.specs.Read.{due_after, close_verdict};
 

@@ -1,4 +1,6 @@
 // The torque that a tick commands: a demand held within the torque limits of the settings.
+#![tactic(auto)]
+
 ghost use Rattle.std.specs.Prelude.{◌≡◌, min};
 ghost use Rattle.commands.specs.Commands.{whole_demand};
 ghost use Rattle.counts.specs.Clamp.{clamped};
