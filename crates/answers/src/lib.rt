@@ -1,4 +1,6 @@
 // What a tick hands out.
+#![tactic(auto)]
+
 ghost use Rattle.std.specs.Prelude.{◌≡◌};
 ghost use Rattle.answers.specs.Answer.{refused_answer, is_following};
 

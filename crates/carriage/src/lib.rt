@@ -1,4 +1,6 @@
 // A paper rail (02, (vii)): which rails fit, the switches at a cell, and how far a leg moves the carriage.
+#![tactic(auto)]
+
 ghost use Rattle.std.specs.Prelude.{◌≡◌};
 ghost use Rattle.counts.specs.Between.{between};
 ghost use Rattle.legs.specs.Numbers.{leg_from};

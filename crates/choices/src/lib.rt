@@ -1,4 +1,6 @@
 // Words of a tick that are one of a few: `at`, `still` or `moving`, `set1` or `set2`, and the switches.
+#![tactic(auto)]
+
 ghost use Rattle.std.specs.Prelude.{◌≡◌};
 ghost use Rattle.keywords.specs.Keywords.{words_listed};
 ghost use Rattle.choices.specs.Choices.{at_read, choice_read, standstill_read, set_read, switches_read};

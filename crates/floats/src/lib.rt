@@ -1,4 +1,6 @@
 // Single floats as text, in ASCII: `x` and eight hexadecimal digits, the pattern, or a decimal.
+#![tactic(auto)]
+
 ghost use Rattle.std.specs.Prelude.{◌≡◌, ◌^◌, ◌≤◌, from_bits};
 ghost use Rattle.std.specs.Float.{binary32};
 ghost use Rattle.floats.specs.Literal.{eight_of, quotient_float, without_point, with_point, unsigned_of, negated_of, spelled_float};

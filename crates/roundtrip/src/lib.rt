@@ -1,1 +1,3 @@
 // Settings and their words, there and back: theorems alone, in proofs/, over the readings in specs/.
+
+#![tactic(auto)]

@@ -1,4 +1,6 @@
 // The speed that a tick commands: that of the homing leg in which the axis moves.
+#![tactic(auto)]
+
 ghost use Rattle.std.specs.Prelude.{◌≡◌, ◌-◌, ◌^◌, min};
 ghost use Rattle.legs.specs.Numbers.{leg_from};
 ghost use Rattle.speed.specs.Speed.{signed_of, leg_speed};

@@ -1,4 +1,6 @@
 // The statusword: the drive's bits, bit 8, and bits 10 to 13.
+#![tactic(auto)]
+
 ghost use Rattle.std.specs.Prelude.{◌≡◌, ◌≤◌};
 ghost use Rattle.homing.specs.Phase.{phase_of};
 ghost use Rattle.status.specs.Statusword.{weight_of, limit_active, flags_in, homing_bits, other_bits, mode_bits, statusword_of};

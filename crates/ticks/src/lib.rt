@@ -1,4 +1,6 @@
 // One tick of an axis: its inputs, and what goes by more than one of them.
+#![tactic(auto)]
+
 ghost use Rattle.std.specs.Prelude.{◌≡◌};
 ghost use Rattle.modes.specs.Modes.{matched_of};
 ghost use Rattle.commands.specs.Commands.{mode_of};

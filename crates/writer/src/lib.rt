@@ -1,4 +1,6 @@
 // Writing settings as words into a lent buffer.
+#![tactic(auto)]
+
 ghost use Rattle.std.specs.Prelude.{◌≡◌, ◌+◌, ◌≤◌, ◌<◌, true, ◌++◌, length, take, drop};
 ghost use Rattle.ranges.specs.Range.{torque_ok};
 ghost use Rattle.settings.specs.Ranges.{in_range};
