@@ -1,4 +1,6 @@
 // The axis in words that the caller lends: what each word is, and every read and write of them.
+#![tactic(auto)]
+
 ghost use Rattle.std.specs.Prelude.{◌≡◌, not, length, ◌==◌};
 ghost use Rattle.homing.specs.Phase.{phase_of};
 ghost use Rattle.words.specs.Decode.{settings_of};

@@ -80,7 +80,7 @@ front-stored (last e) (u ∷ us) w q n = absurd (nothing us w (tail-eq_of_cons-e
 front-stored (more {p} {w = v} z r) (u ∷ us) w q n =
     let h : v ≡ u = head-eq_of_cons-eq q in
     let o : (read_of p u).outcome ≡ Stored = stores p u (subst (λ (x : ℕ). outcome_number (read_of p x).outcome ≡ 0) h z) n.0 in
-    (o, subst (λ (x : ℕ). AllStored (read_of p x).pending us) h (front-stored r us w (tail-eq_of_cons-eq q) n.1))
+    (o, subst (λ (x : ℕ). AllStored (read_of p x).pending us) h (front-stored {p = (read_of p v).pending} r us w (tail-eq_of_cons-eq q) n.1))
 
 tick-keeps : (a : Axis) (t : Tick) → (tick_of a t).axis.pending ≡ a.pending
 tick-keeps a t = ap (λ (b : Axis). b.pending) (pending-unseen a a.pending t).left

@@ -2,53 +2,21 @@
 -- lists, one of layout 2 (`LongRails.antt`), one of layout 3 and the homing torque (`HomingTorque.antt`), and one of what the list itself says. The
 -- checker evaluates all five. What no answer shows of floats stands in hybrid/specs/Examples.antt, the routes of every method in homing/proofs/Examples.antt.
 -- Assumes nothing.
-use Rattle.std.specs.Prelude.{ℕ, ◌≡◌, refl, Bool, true, false, not, List, [], ◌∷◌, ◌++◌, map, eqb, pos, take, drop, replicate}
-use Rattle.std.specs.Float.Ieee.{of_bits, sub, mul, div, of_int}
+use Rattle.std.specs.Prelude.{ℕ, Bool, true, false, not, List, [], ◌∷◌, ◌++◌, map, eqb, pos, take, drop, replicate}
 use Rattle.counts.specs.Bit.{bit_of}
-use Rattle.counts.specs.Wrap.{modulo, signed, wrapped}
-use Rattle.counts.specs.Divide.{floor_div}
-use Rattle.counts.specs.Fits.{fits}
-use Rattle.counts.specs.Clamp.{clamped}
-use Rattle.counts.specs.Tests.{minus, all}
-use Rattle.ranges.specs.Range.{method_ok}
-use Rattle.gears.specs.Gear.{geared_of, in_reach}
-use Rattle.checks.specs.Check.{limits_verdict, verdict_of, acceptable}
-use Rattle.settings.specs.Ranges.{positions_fit, in_range}
-use Rattle.words.specs.Word.{same_words, latest}
-use Rattle.words.specs.Encode.{values_of, total, checksum_of, words_from, words_of}
-use Rattle.words.specs.Decode.{position_from, settings_of}
-use Rattle.kinds.specs.Fields.{option_with_homing_ok, field_ok}
-use Rattle.writer.specs.Write.{write_verdict}
-use Rattle.reader.specs.Read.{start_read, field_read, end_verdict, end_read, read_of}
-use Rattle.control.specs.Control.{control_command_of}
-use Rattle.drive.specs.Transitions.{next_state}
-use Rattle.states.specs.Alarm.{least_set, alarm_number_of}
-use Rattle.hybrid.specs.Hybrid.{quotient_of, size_of, negative, whole_part}
+use Rattle.counts.specs.Tests.{minus}
+use Rattle.checks.specs.Check.{acceptable}
+use Rattle.words.specs.Word.{same_words}
+use Rattle.words.specs.Encode.{words_of}
 use Rattle.commands.specs.declared.Command.TheVariants.{Homing, Torque, Rest}
-use Rattle.commands.specs.Commands.{with_bit31}
-use Rattle.legs.specs.Events.{switches_in, event_counts, limit_counts}
-use Rattle.legs.specs.Routes.{row_of}
-use Rattle.legs.specs.Numbers.{main_route, turn_route, skip_route, skips, start_route}
-use Rattle.homing.specs.Steps as steps
+use Rattle.legs.specs.Events.{switches_in}
 use Rattle.torque.specs.declared.LimitSet.TheVariants.{Set2}
-use Rattle.torque.specs.Limits.{cap_of}
-use Rattle.torque.specs.Torque.{torque_of}
-use Rattle.speed.specs.Speed.{signed_of}
-use Rattle.position.specs.Position.{count_of}
-use Rattle.status.specs.Statusword.{statusword_of}
-use Rattle.answers.specs.Answer.{answer_in, answered_in}
 use Rattle.rules.specs.Axis.{Active, Nothing, Set}
-use Rattle.rules.specs.Word.{word_of}
-use Rattle.rules.specs.Tick.{tick_of}
-use Rattle.ticks.specs.After.{new_phase}
-use Rattle.demands.specs.Takeover.{completed_by}
 use Rattle.demands.specs.Events.{Event, word}
 use Rattle.demands.specs.Known.{Since, never, known}
 use Rattle.demands.specs.Known.{start as begun}
 use Rattle.demands.specs.Replies.{Reply, replies}
 use Rattle.demands.specs.Sheet.{words_S, settings_S, S_with}
-use Rattle.demands.specs.LongRails.{words_S_2, long_rails}
-use Rattle.demands.specs.HomingTorque.{words_S_3, homing_torques}
 use Rattle.demands.specs.Lists.{off, HOM, Z, POT, NOT, inputs, still_tick, moving_tick, alarmed, ask, ask_in, hybrid, start, at, halted, released, target, rehearsed, S, with, enabling, enabled, enabled_with, after, number, torque, position, speed, status, alarm, same_counts}
 
 abbrev homed_at_0 : List Event

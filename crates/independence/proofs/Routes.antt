@@ -114,7 +114,7 @@ step m (runs k h) v = steps m k _ h v
 
 pub all-steps : (m : ℕ) {p : Phase} → OnRoute m p → (vs : List View) → OnRoute m (step_all p m vs)
 all-steps m o [] = o
-all-steps m o (v ∷ vs) = all-steps m (step m o v) vs
+all-steps m {p = p} o (v ∷ vs) = all-steps m {p = step_of p m v} (step m o v) vs
 
 pub starts : (m : ℕ) (s : Switches) → OnRoute m (start_of m s)
 unfolding start_of start_route

@@ -1,51 +1,41 @@
 -- The examples of `specs/Examples.antt`, which the checker evaluates.
 -- Assumes nothing.
-use Rattle.std.specs.Prelude.{ℕ, ◌+◌, ◌-◌, ◌*◌, ◌%◌, ◌^◌, ◌≡◌, refl, Bool, true, false, not, ◌&&◌, List, [], ◌∷◌, ◌++◌, map, eqb, ℤ, pos, take, drop, replicate}
+use Rattle.std.specs.Prelude.{ℕ, ◌≡◌, refl, true, ℤ}
 use Rattle.std.specs.Float.Ieee.{of_bits, sub, mul, div, of_int}
 use Rattle.counts.specs.Wrap.{modulo, signed, wrapped}
 use Rattle.counts.specs.Divide.{floor_div}
 use Rattle.counts.specs.Clamp.{clamped}
-use Rattle.counts.specs.Tests.{minus, same, all}
+use Rattle.counts.specs.Tests.{all}
 use Rattle.ranges.specs.Range.{method_ok}
-use Rattle.settings.specs.declared.Settings.{Settings}
 use Rattle.gears.specs.Gear.{geared_of, in_reach}
 use Rattle.checks.specs.Check.{limits_verdict}
 use Rattle.kinds.specs.Fields.{field_ok}
-use Rattle.words.specs.Word.{same_words}
 use Rattle.words.specs.Encode.{total, checksum_of, words_from}
-use Rattle.words.specs.Decode.{position_from, settings_from, settings_of}
+use Rattle.words.specs.Decode.{position_from, settings_of}
 use Rattle.reader.specs.Pending.{Pending}
-use Rattle.reader.specs.Read.{empty_pending, start_read, field_read, end_verdict, end_read, read_of}
+use Rattle.reader.specs.Read.{start_read, field_read, end_verdict, end_read, read_of}
 use Rattle.legs.specs.Events.{event_counts, limit_counts}
 use Rattle.legs.specs.Routes.{row_of}
 use Rattle.legs.specs.Numbers.{main_route, turn_route, skips, start_route}
 use Rattle.homing.specs.Steps as steps
-use Rattle.homing.specs.Phase.{Idle, Running, Homed, Failed}
+use Rattle.homing.specs.Phase.{Running}
 use Rattle.homing.specs.Moving.{running_leg}
 use Rattle.hybrid.specs.Hybrid.{quotient_of, size_of, negative, whole_part}
-use Rattle.states.specs.declared.State.TheVariants.{SwitchOnDisabled, OperationEnabled, QuickStopActive}
 use Rattle.control.specs.Control.{control_command_of}
 use Rattle.drive.specs.Transitions.{next_state}
 use Rattle.position.specs.Position.{count_of}
-use Rattle.modes.specs.declared.Mode.TheVariants as mode
-use Rattle.commands.specs.declared.Command.TheVariants.{Homing, Torque, Rest}
 use Rattle.torque.specs.Limits.{cap_of}
 use Rattle.torque.specs.Torque.{torque_of}
-use Rattle.torque.specs.declared.LimitSet.TheVariants.{Set2}
 use Rattle.status.specs.Statusword.{statusword_of}
 use Rattle.speed.specs.Speed.{signed_of}
 use Rattle.ticks.specs.After.{new_phase}
-use Rattle.ticks.specs.Motion.{Motion, fresh_motion, driven, phased, home_at, fed}
+use Rattle.ticks.specs.Motion.{Motion, home_at}
 use Rattle.answers.specs.Answer.{answer_in, answered_in}
-use Rattle.answers.specs.declared.Answer.{Answer}
 use Rattle.rules.specs.Word.{word_of}
 use Rattle.rules.specs.Tick.{tick_of}
-use Rattle.rules.specs.Axis.{Active, Nothing, Set, Axis, fresh_axis}
-use Rattle.demands.specs.Events.{Event, word}
-use Rattle.demands.specs.Replies.{replies_from}
-use Rattle.demands.specs.Sheet.{words_S, settings_S, data_with, S_with}
-use Rattle.demands.specs.Lists.{off, HOM, POT, still_tick, moving_tick, ask, ask_in, hybrid, at, target, rehearsed, S, enabling, enabled, number, speed, status, same_counts}
-use Rattle.independence.specs.Alike.{Alike, answers_from}
+use Rattle.rules.specs.Axis.{Set}
+use Rattle.demands.specs.Sheet.{words_S, settings_S}
+use Rattle.independence.specs.Alike.{Alike}
 use Rattle.independence.specs.Examples.{with_units, running, axis, one, other, odd, alike, alone, unturned, differing}
 
 -- whatever the motion is, units, home and what is pending leave unchanged all that the theorem asks for

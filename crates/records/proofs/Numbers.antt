@@ -17,7 +17,7 @@ use Rattle.counts.specs.Clamp.{clamped}
 
 -- a signed result as the machine holds it
 pub read16 : (z : ℤ) → mag z < 2 ^ 15 → to_z w16 (of_z w16 z) ≡ z
-read16 z h = to_z-of_z (record { sfits = h })
+read16 z h = to_z-of_z {w = w16} {z = z} (record { sfits = h })
 
 -- a number held within 16 bits fits them
 pub held_fits : (z : ℤ) → SFits w16 (clamped z (negsuc 32767) (pos 32767))

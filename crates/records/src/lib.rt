@@ -1,6 +1,8 @@
 // Events, answers and settings as plain 32-bit words (specs/Words.antt), for programs in other languages.
 //
 // Signed numbers stand as their 32-bit pattern. Every function answers every value of its arguments.
+#![tactic(auto)]
+
 ghost use Rattle.std.specs.Prelude.{◌≡◌, length};
 ghost use Rattle.std.proofs.lemmas.List.Edits.{sets};
 ghost use Rattle.patterns.specs.Patterns.{word_at};

@@ -1,4 +1,6 @@
 // The next word of a line, read as a number or a float: the value, or the cursor lost at the word.
+#![tactic(auto)]
+
 ghost use Rattle.std.specs.Prelude.{◌<◌, ◌^◌, ◌≡◌};
 ghost use Rattle.std.specs.Int.Signed.{mag};
 ghost use Rattle.numerals.specs.Signs.{signed_whole};
