@@ -1,4 +1,6 @@
 // One axis, fed by settings words and ticks. It lives in words that the caller lends, which `cells` alone reads and writes.
+#![tactic(auto)]
+
 mod under;
 
 ghost use Rattle.std.specs.Prelude.{◌≡◌, true, false, ◌<◌, ◌≤◌};

@@ -1,4 +1,6 @@
 // Answers to a line that cannot be read, on a page that the caller lends. What does not fit on the page is cut off.
+#![tactic(auto)]
+
 ghost use Rattle.std.specs.Prelude.{◌≡◌};
 ghost use Rattle.complaints.specs.Texts.{expected_row, expected_text, line_and_column_text, unreadable_text, long_text};
 ghost use Rattle.page.specs.Page.{Printed};

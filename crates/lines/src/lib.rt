@@ -1,4 +1,6 @@
 // What a line of the program says.
+#![tactic(auto)]
+
 mod rail_line;
 mod run_line;
 mod tick_line;

@@ -1,4 +1,6 @@
 // A tick's command: `hybrid` and seven floats, `homing`, `position`, `torque` or `rest`.
+#![tactic(auto)]
+
 ghost use Rattle.std.specs.Prelude.{◌≡◌, get_or};
 ghost use Rattle.keywords.specs.Keywords.{meanings};
 ghost use Rattle.orders.specs.Orders.{hybrid_read, request_read, position_read, commands, no_command, command_read};

@@ -1,5 +1,7 @@
 // The words after `settings`: METHOD FAST SLOW OFFSET NUM DEN LOWER UPPER MAX P1 N1 P2 N2 OPTION RATED [HOMING]. After `sheet` LENGTH comes first, and
 // there is no HOMING; after `layout` LAYOUT and LENGTH come first.
+#![tactic(auto)]
+
 ghost use Rattle.std.specs.Prelude.{◌≡◌, true};
 ghost use Rattle.sheets.specs.Sheets.{homing_read, travel_read, torques_read, homing_torque_read, settings_read, fields_read, sheet_read, layout_read};
 

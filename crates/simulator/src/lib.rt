@@ -1,4 +1,6 @@
 // Settings tried on a paper rail (02, (vii)): the axis is run by its own calls.
+#![tactic(auto)]
+
 ghost use Rattle.std.specs.Prelude.{◌≡◌, ◌-◌, ◌≤◌};
 ghost use Rattle.homing.specs.Phase.{phase_of};
 ghost use Rattle.cells.specs.Cells.{axis_in};

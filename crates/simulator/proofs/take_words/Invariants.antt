@@ -1,0 +1,9 @@
+-- `simulator::take_words`: the words still to come lead to the same axis.
+-- Assumes nothing.
+use Rattle.std.proofs.Common.{◌≡◌, drop}
+use Rattle.cells.specs.Cells.{axis_in}
+use Rattle.simulator.specs.Run.{after_words}
+use Rattle.simulator.proofs.take_words.Given as goal
+
+abbrev pub invariant-loop-i : goal.invariant-loop-i
+invariant-loop-i l = after_words (axis_in l.fn.axis) l.words ≡ after_words (axis_in l.axis) (drop l.i l.words)
