@@ -1,14 +1,13 @@
 -- The examples of `specs/Examples.antt`, which the checker evaluates.
 -- Assumes nothing.
-use Rattle.std.specs.Prelude.{ℕ, ◌≡◌, refl, Bool, true, not, ◌&&◌, List, [], ◌∷◌, eqb, ℤ, pos}
+use Rattle.std.specs.Prelude.{◌≡◌, refl, true}
 use Rattle.std.proofs.Common.{arith}
 use Rattle.counts.specs.Wrap.{modulo, signed, wrapped}
 use Rattle.counts.specs.Divide.{floor_div}
 use Rattle.counts.specs.Clamp.{clamped}
 use Rattle.counts.specs.Fits as counts
-use Rattle.counts.specs.Tests.{minus, all}
+use Rattle.counts.specs.Tests.{all}
 use Rattle.ranges.specs.Range.{method_ok}
-use Rattle.settings.specs.declared.Settings.{Settings}
 use Rattle.settings.specs.Ranges.{in_range, positions_fit}
 use Rattle.gears.specs.Gear.{geared_of, in_reach}
 use Rattle.checks.specs.Check.{verdict_of, limits_verdict}
@@ -26,13 +25,9 @@ use Rattle.ticks.specs.After.{new_phase}
 use Rattle.answers.specs.Answer.{answered_in}
 use Rattle.rules.specs.Word.{word_of}
 use Rattle.rules.specs.Tick.{tick_of}
-use Rattle.carriage.specs.declared.Rail.{Rail}
 use Rattle.carriage.specs.Rail.{sized, sizes_fit, ticks_fit, cam_fits, on_rail, rail_fits, switches_at, stride_of}
-use Rattle.simulator.specs.declared.Stop.{Stop}
-use Rattle.simulator.specs.declared.Stop.TheVariants as stop
-use Rattle.simulator.specs.declared.Outcome.{Outcome}
 use Rattle.simulator.specs.Run.{run_of}
-use Rattle.arrival.specs.Homes.{Roomy, bound}
+use Rattle.arrival.specs.Homes.{Roomy}
 use Rattle.arrival.specs.Examples.{paper, in_time, others, needed, last, refusals}
 
 pub roomy_paper : Roomy paper

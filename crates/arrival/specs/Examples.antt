@@ -1,38 +1,15 @@
 -- Runs computed: each row is a rail (L, u, w, f, s), a method, a start cell, a number of ticks, and what comes of it.
 -- Assumes nothing.
-use Rattle.std.specs.Prelude.{ℕ, ◌≡◌, refl, Bool, true, not, ◌&&◌, List, [], ◌∷◌, eqb, ℤ, pos}
-use Rattle.std.proofs.Common.{arith}
-use Rattle.counts.specs.Wrap.{modulo, signed, wrapped}
-use Rattle.counts.specs.Divide.{floor_div}
-use Rattle.counts.specs.Clamp.{clamped}
-use Rattle.counts.specs.Fits as counts
-use Rattle.counts.specs.Tests.{minus, all}
-use Rattle.ranges.specs.Range.{method_ok}
+use Rattle.std.specs.Prelude.{ℕ, Bool, not, ◌&&◌, List, [], ◌∷◌, eqb, ℤ, pos}
+use Rattle.counts.specs.Tests.{minus}
 use Rattle.settings.specs.declared.Settings.{Settings}
-use Rattle.settings.specs.Ranges.{in_range, positions_fit}
-use Rattle.gears.specs.Gear.{geared_of, in_reach}
-use Rattle.checks.specs.Check.{verdict_of, limits_verdict}
-use Rattle.kinds.specs.Fields.{option_with_homing_ok, field_ok}
-use Rattle.words.specs.Encode.{values_of, total, checksum_of, words_from, words_of}
-use Rattle.words.specs.Decode.{position_from, settings_of}
-use Rattle.reader.specs.Read.{start_read, field_read, end_verdict, end_read, read_of}
-use Rattle.legs.specs.Events.{event_counts, limit_counts}
-use Rattle.legs.specs.Routes.{row_of}
-use Rattle.legs.specs.Numbers.{main_route, turn_route, skip_route, skips, start_route}
-use Rattle.homing.specs.Steps as steps
-use Rattle.control.specs.Control.{control_command_of}
-use Rattle.drive.specs.Transitions.{next_state}
-use Rattle.ticks.specs.After.{new_phase}
-use Rattle.answers.specs.Answer.{answered_in}
-use Rattle.rules.specs.Word.{word_of}
-use Rattle.rules.specs.Tick.{tick_of}
 use Rattle.carriage.specs.declared.Rail.{Rail}
-use Rattle.carriage.specs.Rail.{sized, sizes_fit, ticks_fit, cam_fits, on_rail, rail_fits, switches_at, stride_of}
+use Rattle.carriage.specs.Rail.{rail_fits}
 use Rattle.simulator.specs.declared.Stop.{Stop}
 use Rattle.simulator.specs.declared.Stop.TheVariants as stop
 use Rattle.simulator.specs.declared.Outcome.{Outcome}
 use Rattle.simulator.specs.Run.{run_of}
-use Rattle.arrival.specs.Homes.{Roomy, bound}
+use Rattle.arrival.specs.Homes.{bound}
 
 abbrev pub rail : ℕ → ℕ → ℕ → ℕ → ℕ → Rail
 rail L u w f s = record { length = L; cam = u; width = w; fast = f; slow = s }

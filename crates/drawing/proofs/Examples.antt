@@ -1,15 +1,10 @@
 -- The examples of `specs/Examples.antt`, which the checker evaluates.
 -- Assumes nothing.
-use Rattle.std.specs.Prelude.{ℕ, ◌++◌, ◌≡◌, refl, ℤ, pos, negsuc}
+use Rattle.std.specs.Prelude.{refl}
 use Rattle.counts.specs.Wrap.{modulo, signed, wrapped}
-use Rattle.carriage.specs.declared.Rail.{Rail}
-use Rattle.simulator.specs.declared.LegRun.{LegRun}
-use Rattle.simulator.specs.declared.Stop.TheVariants.{Homed, Ticks}
-use Rattle.simulator.specs.declared.Trace.{Trace}
 use Rattle.numerals.specs.Writing.{digits}
-use Rattle.tokens.specs.Ascii.{ascii}
 use Rattle.drawing.specs.Strip.{column_of, glyph_at, glyphs}
-use Rattle.drawing.specs.Picture.{leg_row, ended_at, picture_text}
+use Rattle.drawing.specs.Picture.{leg_row, ended_at}
 use Rattle.drawing.specs.Examples.{OfTheDocument, OfALongRail}
 
 pub of_the_document : OfTheDocument

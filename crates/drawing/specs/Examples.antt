@@ -1,15 +1,12 @@
 -- Pictures, computed: that of docs/LINES.md, and one of a long rail.
 -- Assumes nothing.
-use Rattle.std.specs.Prelude.{ℕ, ◌++◌, ◌≡◌, refl, ℤ, pos, negsuc}
-use Rattle.counts.specs.Wrap.{modulo, signed, wrapped}
+use Rattle.std.specs.Prelude.{ℕ, ◌++◌, ◌≡◌, ℤ, pos, negsuc}
 use Rattle.carriage.specs.declared.Rail.{Rail}
 use Rattle.simulator.specs.declared.LegRun.{LegRun}
 use Rattle.simulator.specs.declared.Stop.TheVariants.{Homed, Ticks}
 use Rattle.simulator.specs.declared.Trace.{Trace}
-use Rattle.numerals.specs.Writing.{digits}
 use Rattle.tokens.specs.Ascii.{ascii}
-use Rattle.drawing.specs.Strip.{column_of, glyph_at, glyphs}
-use Rattle.drawing.specs.Picture.{leg_row, ended_at, picture_text}
+use Rattle.drawing.specs.Picture.{picture_text}
 
 abbrev leg : ℕ → ℕ → ℤ → LegRun
 leg route ticks cell = record { route = route; ticks = ticks; cell = cell }

@@ -1,4 +1,6 @@
 // A run on a paper rail, drawn as text (docs/LINES.md, "A picture"), on a page that the caller lends. What does not fit on the page is cut off.
+#![tactic(auto)]
+
 ghost use Rattle.std.specs.Prelude.{◌≤◌, cond, ◌≡◌};
 ghost use Rattle.page.specs.Page.{Printed};
 ghost use Rattle.drawing.specs.Strip.{columns, column_of, spans, glyph_at, strip_text};

@@ -1,4 +1,6 @@
 // The axis and the writer for programs in C: the calls of `c/axis.h`, whose words `crates/records` reads and writes.
+#![tactic(auto)]
+
 ghost use Rattle.std.specs.Prelude.{◌≡◌};
 ghost use Rattle.settings.specs.Refusal.{verdict_number};
 ghost use Rattle.writer.specs.Write.{write_verdict, written};

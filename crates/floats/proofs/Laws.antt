@@ -1,6 +1,6 @@
 -- NaN patterns, how far nine digits reach, and the parts of a text.
 -- Assumes nothing.
-use Rattle.std.proofs.Common.{◌≡◌, ℕ, suc, ◌+◌, ◌-◌, ◌*◌, ◌/◌, ◌%◌, ◌^◌, ◌<◌, ◌≤◌, Bool, true, false, not, ◌&&◌, eqb, List, [], ◌∷◌, length, get_or, take, drop, sym, refl, ap, subst, mul-le-mul_right, suc-mul, add-one, arith, length-drop, take_all, pow-add, le-ltb, lt-ltb, eq-eqb, ne_eqb, eqb-true}
+use Rattle.std.proofs.Common.{◌≡◌, ℕ, suc, ◌+◌, ◌-◌, ◌*◌, ◌/◌, ◌%◌, ◌^◌, ◌<◌, ◌≤◌, Bool, true, false, not, ◌&&◌, eqb, List, length, take, drop, sym, refl, ap, subst, mul-le-mul_right, suc-mul, add-one, arith, length-drop, take_all, pow-add, le-ltb, lt-ltb, eqb-true}
 use native.Mathlib.Nat.{pow-le-pow_right}
 use borrow.Author.Tests.{not-true}
 use lib.Ieee.{nan, binary32, of_bits, of_fields, nan_bits, top, hid}
@@ -8,8 +8,7 @@ use Rattle.scan.specs.Bytes.{index_of}
 use Rattle.spelling.specs.declared.Number.TheVariants.{Value}
 use Rattle.spelling.specs.Spelling.{decimal_of, Below}
 use Rattle.spelling.proofs.Reach.{digits-below}
-use Rattle.floats.specs.declared.Float.TheVariants as float
-use Rattle.floats.specs.Literal.{eight_of, without_point, with_point, unsigned_of, negated_of, spelled_float}
+use Rattle.floats.specs.Literal.{without_point, with_point, unsigned_of}
 
 and_left : (a b : Bool) → a && b ≡ true → a ≡ true
 and_left true b e = refl
@@ -55,26 +54,3 @@ cut_at bs p e h =
 pub no-point : (bs : List ℕ) (p : ℕ) → p ≡ index_of 46 bs → length bs ≤ p → without_point bs ≡ unsigned_of bs
 unfolding unsigned_of
 no-point bs p e h = rw (sym e, le-ltb p (length bs) h)
-
--- the rest of a text after its first byte, as the code takes it
-abbrev pub rest : List ℕ → List ℕ
-rest bs = take (length bs - 1) (drop 1 bs)
-
-rest-cons : (b : ℕ) (bs : List ℕ) → rest (b ∷ bs) ≡ bs
-rest-cons b bs = take_all (suc (length bs) - 1) bs (omega arith)
-
-pub no_text : (bs : List ℕ) → length bs ≡ 0 → spelled_float bs ≡ float.Unreadable
-no_text [] e = refl
-no_text (b ∷ bs) e = absurd (omega arith)
-
-pub x-first : (bs : List ℕ) → 0 < length bs → get_or bs 0 0 ≡ 120 → eight_of (rest bs) ≡ spelled_float bs
-x-first [] h e = absurd (omega arith)
-x-first (b ∷ bs) h e = rw (eq-eqb b 120 e) (ap eight_of (rest-cons b bs))
-
-pub minus-first : (bs : List ℕ) → 0 < length bs → get_or bs 0 0 ≡ 45 → negated_of (unsigned_of (rest bs)) ≡ spelled_float bs
-minus-first [] h e = absurd (omega arith)
-minus-first (b ∷ bs) h e = rw (e, rest-cons b bs)
-
-pub neither-first : (bs : List ℕ) → 0 < length bs → (get_or bs 0 0 ≡ 120 → ⊥) → (get_or bs 0 0 ≡ 45 → ⊥) → unsigned_of bs ≡ spelled_float bs
-neither-first [] h x m = absurd (omega arith)
-neither-first (b ∷ bs) h x m = rw (ne_eqb b 120 x, ne_eqb b 45 m)

@@ -4,7 +4,7 @@ use Prim.Native.Nat.{ℕ, ◌+◌, ◌-◌, ◌≤◌}
 use mathlib.Core.List.{List, ◌++◌}
 use mathlib.Core.Path.{◌≡◌, sym, ap, ◌∙◌}
 use native.Mathlib.Omega.{arith}
-use lib.ListN.{length, take, replicate, length-append, length-replicate, replicate-append-replicate}
+use lib.ListN.{length, take, replicate, length-replicate, replicate-append-replicate}
 use lib.Seq.{take_at}
 
 -- the first n of a buffer that holds the same word everywhere
@@ -18,6 +18,3 @@ first-words n m x h =
 -- what was lent stands in front again
 pub given_back : (n : ℕ) (part rest : List ℕ) → length part ≡ n → take n (part ++ rest) ≡ part
 given_back n part rest e = take_at part rest n e
-
-pub still-there : (n : ℕ) (part rest : List ℕ) → length part ≡ n → n ≤ length (part ++ rest)
-still-there n part rest e = omega (arith, length-append part rest)

@@ -1,4 +1,6 @@
 // What a line that writes settings is answered: the writer, on a buffer that is lent to it.
+#![tactic(auto)]
+
 ghost use Rattle.std.specs.Prelude.{min, ◌≡◌, replicate};
 ghost use Rattle.page.specs.Page.{Printed};
 ghost use Rattle.lent.specs.Lent.{written_text};

@@ -1,9 +1,8 @@
 -- A reading is put together of the next word's place, what its bytes spell, and the cursor's step.
 -- Assumes nothing.
-use Prim.Native.Nat.{ℕ, ◌≤◌, ◌<◌}
+use Prim.Native.Nat.{ℕ, ◌<◌}
 use mathlib.Core.List.{List}
 use mathlib.Core.Path.{◌≡◌, ap, ◌∙◌}
-use native.Mathlib.Omega.{arith}
 use lib.Signed.{mag}
 use Rattle.cursors.specs.declared.Cursor.{Cursor}
 use Rattle.cursors.specs.declared.Expected.{Expected}
@@ -27,10 +26,6 @@ number-at spelling e text c {w} p q s = p ∙ ap (number_read c w e) q ∙ ap (�
 pub value-below : (limit : ℕ) (c : Cursor) (w : Span) (e : Expected) (n : Number) → 0 < limit → Below limit n → (number_read c w e n).value < limit
 value-below limit c w e (number.Value n) z h = h
 value-below limit c w e number.Unreadable z h = z
-
-pub below_more : (n : Number) {k m : ℕ} → k ≤ m → Below k n → Below m n
-below_more (number.Value v) h b = omega arith
-below_more number.Unreadable h b = tt
 
 pub whole-at : (spelling : List ℕ → Whole) (text : List ℕ) (c : Cursor) {w : Span} {n : Whole} {r : WholeRead}
     → r ≡ whole_read c w n → n ≡ spelling (bytes_of text w) → w ≡ next_word text c.at → r ≡ whole_at spelling text c

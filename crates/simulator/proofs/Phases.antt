@@ -2,57 +2,19 @@
 -- Assumes nothing.
 use Prim.Native.Nat.{ℕ, ◌^◌}
 use mathlib.Core.Path.{◌≡◌, refl, sym, ap}
-use mathlib.Core.Bool.{Bool, true, false, false≢true, true≢false, cond, ◌||◌}
+use mathlib.Core.Bool.{Bool, true, false, false≢true, true≢false, cond}
 use mathlib.Core.List.{List}
-use mathlib.Core.Option.{none, some}
+use mathlib.Core.Option.{some}
 use lib.Dec.{eqb, ltb}
 use native.Mathlib.Omega.{arith}
 use borrow.Author.Tests.{eqb-true, eq-eqb, ne_eqb}
 use Rattle.legs.specs.Numbers.{leg_from}
-use Rattle.homing.specs.Phase.{Phase, Idle, Running, Homed, Failed, phase_of, homed_in, running_in, failed_in}
+use Rattle.homing.specs.Phase.{Phase, Idle, Running, Homed, Failed, phase_of, running_in}
 use Rattle.homing.specs.Moving.{running_leg}
 use Rattle.homing.proofs.Phases.{runs}
 use Rattle.cells.specs.Cells.{motion_in, axis_in}
-use Rattle.simulator.specs.declared.Stop.TheVariants as stop
-use Rattle.simulator.specs.Run.{phase_on, stopped, stop_of}
+use Rattle.simulator.specs.Run.{phase_on, stopped}
 use Rattle.simulator.specs.Stretch.{goes_on}
-use Rattle.simulator.specs.Trace.{route_in}
-
-pub stopped_by : (p : Phase) → homed_in p || failed_in p ≡ stopped p
-stopped_by Idle = refl
-stopped_by (Running n) = refl
-stopped_by Homed = refl
-stopped_by Failed = refl
-
-pub stop-homed : (p : Phase) → homed_in p ≡ true → stop.Homed ≡ stop_of p
-stop-homed Idle e = absurd (false≢true e)
-stop-homed (Running n) e = absurd (false≢true e)
-stop-homed Homed e = refl
-stop-homed Failed e = absurd (false≢true e)
-
-pub stop-failed : (p : Phase) → failed_in p ≡ true → stop.Failed ≡ stop_of p
-stop-failed Idle e = absurd (false≢true e)
-stop-failed (Running n) e = absurd (false≢true e)
-stop-failed Homed e = absurd (false≢true e)
-stop-failed Failed e = refl
-
-pub stop-ticks : (p : Phase) → homed_in p ≡ false → failed_in p ≡ false → stop.Ticks ≡ stop_of p
-stop-ticks Idle e f = refl
-stop-ticks (Running n) e f = refl
-stop-ticks Homed e f = absurd (true≢false e)
-stop-ticks Failed e f = absurd (true≢false f)
-
-pub no-leg : (p : Phase) → running_in p ≡ false → running_leg p ≡ none
-no-leg Idle e = refl
-no-leg (Running n) e = absurd (true≢false e)
-no-leg Homed e = refl
-no-leg Failed e = refl
-
-pub no-route : (p : Phase) → running_in p ≡ false → 0 ≡ route_in p
-no-route Idle e = refl
-no-route (Running n) e = absurd (true≢false e)
-no-route Homed e = refl
-no-route Failed e = refl
 
 pub a-leg : (n : ℕ) → running_in (phase_of n) ≡ true → running_leg (phase_of n) ≡ some (leg_from n)
 a-leg n e = rw (runs n e)

@@ -31,13 +31,6 @@ later d o = ran (d + o.ticks) o.stop
 
 -- a stretch, tick by tick
 module _ (p : Phase) (r : Rail) (a : Axis) (x : ℤ) where
-  pub none_yet : (n : ℕ) → stretch_in p r n a x ≡ further 0 (stretch_in p r (n - 0) a x)
-  none_yet n =
-      let e : n - 0 ≡ n = omega arith in
-      let t = stretch_in p r n a x in
-      let z : 0 + t.ticks ≡ t.ticks = omega arith in
-      rw (e, z)
-
   pub one-tick : (n d : ℕ) → d < n → goes_on p (phase_on a) ≡ true
       → further d (stretch_in p r (n - d) a x) ≡ further (d + 1) (stretch_in p r (n - (d + 1)) (next_axis r a x) (next_cell r a x))
   one-tick n d h g =

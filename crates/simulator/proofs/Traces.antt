@@ -10,11 +10,10 @@ use lib.Signed.{mag}
 use Rattle.settings.specs.declared.Settings.{Settings}
 use Rattle.rules.specs.Axis.{Axis}
 use Rattle.carriage.specs.declared.Rail.{Rail}
-use Rattle.simulator.specs.declared.LegRun.{LegRun}
 use Rattle.simulator.specs.declared.Outcome.{Outcome}
 use Rattle.simulator.specs.Run.{started, phase_on, run_of}
 use Rattle.simulator.specs.Stretch.{StaysNear, stretch_of}
-use Rattle.simulator.specs.Trace.{RunsLeg, legs_from, no_legs, traced, trace_of}
+use Rattle.simulator.specs.Trace.{legs_from, no_legs, traced, trace_of}
 use Rattle.simulator.proofs.Stretches.{led_to, few-ticks, stretch-near}
 
 -- what a stretch leaves: fewer ticks, and cells as near
@@ -27,18 +26,6 @@ left_by r n a x t y b i e =
     let few : t ≤ n = rw e at (few-ticks r (phase_on a) n a x) in
     let near : mag y ≤ mag x + t * 2 ^ 21 = rw e at (stretch-near r (phase_on a) i.fast i.slow n a x) in
     record { few = few; reach = record { fast = i.fast; slow = i.slow; near = omega (arith, few, near, i.near) } }
-
-pub legs-told : (r : Rail) (n : ℕ) (a : Axis) (x : ℤ) (o : Outcome) (l1 l2 l3 l4 : LegRun) (a1 a2 a3 a4 : Axis)
-    → RunsLeg r n a x l1 a1
-    → RunsLeg r (n - l1.ticks) a1 l1.cell l2 a2
-    → RunsLeg r (n - l1.ticks - l2.ticks) a2 l2.cell l3 a3
-    → RunsLeg r (n - l1.ticks - l2.ticks - l3.ticks) a3 l3.cell l4 a4
-    → record { outcome = o; first = l1; second = l2; third = l3; fourth = l4 } ≡ legs_from r n a x o
-legs-told r n a x o l1 l2 l3 l4 a1 a2 a3 a4 k1 k2 k3 k4 =
-    let m2 = rw (k1.told, k1.left) at k2 in
-    let m3 = rw (k1.told, m2.told, m2.left) at k3 in
-    let m4 = rw (k1.told, m2.told, m3.told, m3.left) at k4 in
-    rw (k1.told, m2.told, m3.told, m4.told)
 
 pub legs-run : (r : Rail) (s : Settings) (start : ℤ) (n : ℕ) (o : Outcome) → o ≡ run_of r s start n → o.number ≡ 0
     → legs_from r (n - 1) (started r s start) start o ≡ trace_of r s start n
