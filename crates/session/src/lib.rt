@@ -1,4 +1,6 @@
 // The axis that the lines speak to, the settings and the rail of later runs, and the answer to each line.
+#![tactic(auto)]
+
 ghost use Rattle.std.specs.Prelude.{◌≡◌};
 ghost use Rattle.lines.specs.Lines.{line_of};
 ghost use Rattle.complaints.specs.Texts.{long_text};
