@@ -135,21 +135,21 @@ pub fresh-in-step : (s : Session) (h : Held) → meant s ≡ fresh_conversation 
 fresh-in-step s h e n line = record { session = e; held = rw n (nothing-held line) }
 
 -- at the input's end: something is held, or nothing
-module _ (line : List ℕ) (c : Console) (st : Stream) (room : 256 ≤ length line) (before : InStep line c st) where
-  pub line-left : (s : Session) → 0 < c.held.length → ((bs : List ℕ) → Holds line c.held bs → meant s ≡ after_line (meant c.session) bs)
-      → meant s ≡ finished_by st.conversation st.line
-  line-left s h a =
-      a st.line before.held
-      ∙ ap (λ (x : Conversation). after_line x st.line) before.session
-      ∙ some st.line (omega (arith, h, before.held.count))
-    where
-      some : (bs : List ℕ) → 0 < length bs → after_line st.conversation bs ≡ finished_by st.conversation bs
-      some [] k = absurd (omega arith)
-      some (b ∷ bs) k = refl
+pub some_left : {line : List ℕ} {c : Console} {st : Stream} (s : Session) → InStep line c st → 256 ≤ length line → 0 < c.held.length
+    → ((bs : List ℕ) → 256 ≤ length line → Holds line c.held bs → meant s ≡ after_line (meant c.session) bs) → meant s ≡ finished_by st.conversation st.line
+some_left {st = st} s before room h a =
+    a st.line room before.held
+    ∙ ap (λ (x : Conversation). after_line x st.line) before.session
+    ∙ some st.line (omega (arith, h, before.held.count))
+  where
+    some : (bs : List ℕ) → 0 < length bs → after_line st.conversation bs ≡ finished_by st.conversation bs
+    some [] k = absurd (omega arith)
+    some (b ∷ bs) k = refl
 
-  pub nothing_left : c.held.length ≤ 0 → meant c.session ≡ finished_by st.conversation st.line
-  nothing_left h = before.session ∙ none st.line (omega (arith, h, room, before.held.count))
-    where
-      none : (bs : List ℕ) → length bs ≤ 0 → st.conversation ≡ finished_by st.conversation bs
-      none [] k = refl
-      none (b ∷ bs) k = absurd (omega arith)
+pub none_left : {line : List ℕ} {c : Console} {st : Stream} → InStep line c st → 256 ≤ length line → c.held.length ≤ 0
+    → meant c.session ≡ finished_by st.conversation st.line
+none_left {line} {st = st} before room h = before.session ∙ none st.line (omega (arith, h, room, before.held.count))
+  where
+    none : (bs : List ℕ) → length bs ≤ 0 → st.conversation ≡ finished_by st.conversation bs
+    none [] k = refl
+    none (b ∷ bs) k = absurd (omega arith)

@@ -1,4 +1,8 @@
 // The rehearsed examples of document 01, starred and unstarred. The script is `stdin`.
-fn main() {
-    console::run();
+#![tactic(auto)]
+
+use std::io;
+
+fn main(rt: HostRuntime) -> io::Result<()> {
+    console::run(&rt)
 }

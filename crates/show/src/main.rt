@@ -1,4 +1,8 @@
 // The program: settings words and ticks as lines of standard input, answers as lines of standard output.
-fn main() {
-    console::run();
+#![tactic(auto)]
+
+use std::io;
+
+fn main(rt: HostRuntime) -> io::Result<()> {
+    console::run(&rt)
 }
