@@ -1,4 +1,5 @@
 pub mod Takeover
+pub mod Unbroken
 pub mod Matches
 pub mod Kept
 pub mod Promised
@@ -7,3 +8,4 @@ pub mod Whole
 pub mod Written
 pub mod Came
 pub mod Examples
+pub mod Speeds

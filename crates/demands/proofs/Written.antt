@@ -43,4 +43,4 @@ written-trip a layout s buffer es w v e idle =
 pub rewritten-trip : RewrittenTrip
 rewritten-trip a l m s buffer ok le k h =
     let v = (accepts-exactly m s buffer h).1 (later-sends l m s ok le k) in
-    record { accepted = v; taken-over = λ es w e idle. written-trip a m s buffer es w v e idle }
+    record { accepted = v; taken_over = λ es w e idle. written-trip a m s buffer es w v e idle }

@@ -1,6 +1,7 @@
 pub mod Events
 pub mod Replies
 pub mod Takeover
+pub mod Unbroken
 pub mod Known
 pub mod Demand
 pub mod Acceptable

@@ -77,7 +77,7 @@ WrittenTrip =
 -- buffer with has the same settings taken over, in every field
 pub record Rewrites (a : Axis) (layout : ℕ) (s : Settings) (buffer : List ℕ) : Type 0 where
   pub accepted : write_verdict layout s buffer ≡ Accepted
-  pub taken-over :
+  pub taken_over :
       (es : List Event) (w : ℕ) → words_in es ++ w ∷ [] ≡ take (needed layout) (written layout s buffer) → NotLive a es → TakesOver a s es w
 
 abbrev pub RewrittenTrip : Type 0

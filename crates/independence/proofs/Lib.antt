@@ -3,6 +3,7 @@ pub mod Takeovers
 pub mod Alike
 pub mod Routes
 pub mod Leg
+pub mod CannotKnow
 pub mod Rehearsals
 pub mod Examples
 pub mod Tables
