@@ -1,6 +1,6 @@
 -- 01, "What a tick hands out".
 -- Assumes nothing.
-use Rattle.std.specs.Prelude.{Bool, true, false, ◌&&◌, ℤ, pos}
+use Rattle.std.specs.Prelude.{Bool, ◌&&◌, ℤ, pos, Option, is_some}
 use Rattle.counts.specs.Bit.{bit_of}
 use Rattle.settings.specs.declared.Settings.{Settings}
 use Rattle.settings.specs.declared.Refusal.{Refusal}
@@ -9,8 +9,6 @@ use Rattle.states.specs.States.{live_of}
 use Rattle.modes.specs.Modes.{mode_number}
 use Rattle.commands.specs.Commands.{whole_demand}
 use Rattle.torque.specs.Torque.{torque_of}
-use Rattle.position.specs.declared.Followed.{Followed}
-use Rattle.position.specs.declared.Followed.TheVariants.{Target, Nothing}
 use Rattle.position.specs.Position.{position_of, clamped_of}
 use Rattle.homing.specs.Phase.{homed_in}
 use Rattle.speed.specs.Speed.{speed_of}
@@ -25,12 +23,11 @@ use Rattle.answers.specs.declared.Answer.{Answer}
 abbrev pub refused_answer : Refusal → Answer
 refused_answer r = record { number = number_of r; torque = pos 0; speed = pos 0; position = pos 0; status = 0; mode = pos 0; alarm = 0 }
 
-abbrev pub is_following : Followed → Bool
-is_following (Target target) = true
-is_following Nothing = false
+abbrev pub is_following : Option ℤ → Bool
+is_following f = is_some f
 
 -- what a tick follows, by the motion that it leaves
-abbrev pub followed_in : Tick → Motion → Followed
+abbrev pub followed_in : Tick → Motion → Option ℤ
 followed_in t a = target_of t.command (matched_in t a.mode) a.state (homed_in a.phase)
 
 abbrev pub flags_of : Settings → Tick → Motion → Flags

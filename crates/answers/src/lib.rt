@@ -2,14 +2,14 @@
 #![tactic(auto)]
 
 ghost use Rattle.std.specs.Prelude.{◌≡◌};
-ghost use Rattle.answers.specs.Answer.{refused_answer, is_following};
+ghost use Rattle.answers.specs.Answer.{refused_answer};
 
-use position::Followed;
 use settings::Refusal;
 
 #[derive(Clone, Copy)]
 pub struct Answer {
     // 0, or why the tick is refused.
+    // Kept: no Result, since C receives the number beside the zeros of a refused tick, and TickNumbers and RefusedTicks speak of both.
     pub number: u32,
     pub torque: i32,
     pub speed: i32,
@@ -24,22 +24,12 @@ pub fn refused(refusal: Refusal) -> Answer
     ensures { result ≡ refused_answer refusal }
 {
     Answer {
-        number: settings::number(refusal),
+        number: refusal.into(),
         torque: 0,
         speed: 0,
         position: 0,
         status: 0,
         mode: 0,
         alarm: 0,
-    }
-}
-
-// Whether a target is followed.
-pub fn following(followed: Followed) -> bool
-    ensures { result ≡ is_following followed }
-{
-    match followed {
-        Followed::Target(_) => true,
-        Followed::Nothing => false,
     }
 }

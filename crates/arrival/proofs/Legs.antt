@@ -313,7 +313,7 @@ all-followed r s start n f ok =
     let p1 = led r s (phase_on a) (n - 1) a start in
     let p2 = led_on r s t1.ticks n1 a t1.axis start t1.cell p1 in
     let p3 = led_on r s (t1.ticks + t2.ticks) n2 a t2.axis start t2.cell p2 in
-    subst (Whole r s start o) (legs-run r s start n o refl (all-step r s start n f ok).number)
+    subst (Whole r s start o) (legs-run r s start n o refl (all-step r s start n f ok).number refl refl refl refl)
     (record {
       outcome = refl;
       first = leg-told r s start ok 0 (n - 1) a start refl;

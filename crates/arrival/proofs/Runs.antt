@@ -1,14 +1,13 @@
 -- What every run is: by cases of its number, and by induction on its ticks.
 -- Assumes nothing.
+use Rattle.std.specs.Prelude.{Err, Ok}
 use Prim.Native.Nat.{ℕ, zero, suc, ◌+◌, ◌-◌, ◌≤◌, ◌<◌}
 use native.Mathlib.Omega.{arith}
 use mathlib.Core.Path.{◌≡◌, refl, subst, ◌∙◌}
 use mathlib.Core.Bool.{Bool, true, false, cond, not, false≢true}
 use lib.IntN.{ℤ}
 use Rattle.settings.specs.declared.Settings.{Settings}
-use Rattle.settings.specs.declared.Verdict.{Verdict}
-use Rattle.settings.specs.declared.Verdict.TheVariants.{Accepted, Refused}
-use Rattle.settings.specs.Refusal.{verdict_number, first_of}
+use Rattle.settings.specs.Refusal.{verdict_number, first_of, Verdict}
 use Rattle.checks.specs.Cases as checks
 use Rattle.checks.proofs.Numbers.{check-number, accepts}
 use Rattle.homing.specs.Phase.{Phase, Idle, Running, Homed, Failed}
@@ -35,8 +34,8 @@ module _ (r : Rail) (s : Settings) (start : ℤ) (n : ℕ) where
   run-number = go (judged r s start n)
     where
       go : (v : Verdict) → (ran_under v r s start n).number ≡ verdict_number v
-      go Accepted = refl
-      go (Refused q) = refl
+      go (Ok tt) = refl
+      go (Err q) = refl
 
 pub numbers : Numbers
 numbers r s start n = run-number r s start n ∙ go (rail_fits r start n)
@@ -59,8 +58,8 @@ unfolding run_of
 all-refused r s start n = go (judged r s start n)
   where
     go : (v : Verdict) → ((ran_under v r s start n).number ≡ 0 → ⊥) → NotRun (ran_under v r s start n)
-    go (Refused q) h = record { ticks = refl; stop = refl }
-    go Accepted h = absurd (h refl)
+    go (Err q) h = record { ticks = refl; stop = refl }
+    go (Ok tt) h = absurd (h refl)
 
 -- a phase that stops a run is not told as the number of ticks
 told : (p : Phase) → stopped p ≡ true → stop_of p ≡ stop.Ticks → ⊥

@@ -1,5 +1,6 @@
 -- A tick under settings, branch by branch: each comes to what the rule says of every tick.
 -- Assumes nothing.
+use Rattle.std.specs.Prelude.{None, Option, Some, ℤ}
 use Prim.Native.Nat.{ℕ}
 use mathlib.Core.Path.{◌≡◌, refl, sym, ap, ap₂, subst, ◌∙◌}
 use mathlib.Core.Bool.{Bool, true, false, not, cond, ◌&&◌, ◌||◌, and-true, and-false, or-true, and-not_self, true≢false, false≢true}
@@ -27,8 +28,6 @@ use Rattle.legs.specs.Events.{View, switches_in}
 use Rattle.legs.specs.Numbers.{leg_from}
 use Rattle.speed.specs.Speed.{moving_speed, speed_of}
 use Rattle.torque.specs.Torque.{torque_of}
-use Rattle.position.specs.declared.Followed.{Followed}
-use Rattle.position.specs.declared.Followed.TheVariants.{Target, Nothing}
 use Rattle.position.specs.Position.{position_of, clamped_of}
 use Rattle.status.specs.Statusword.{flags_in, limit_active, statusword_of}
 use Rattle.ticks.specs.declared.Tick.{Tick}
@@ -192,13 +191,13 @@ stops l t m moved =
     }
 
 -- where no target is followed the position is the actual one
-pub unfollowed : (s : Settings) (home : ℤ) (f : Followed) (actual : ℤ) → is_following f ≡ false
+pub unfollowed : (s : Settings) (home : ℤ) (f : Option ℤ) (actual : ℤ) → is_following f ≡ false
     → (actual ≡ position_of s home f actual) × (false ≡ clamped_of s f)
-unfollowed s home (Target target) actual e = absurd (true≢false e)
-unfollowed s home Nothing actual e = (refl, refl)
+unfollowed s home (Some target) actual e = absurd (true≢false e)
+unfollowed s home None actual e = (refl, refl)
 
 -- the answer, put together of values that are made of the earlier ones as their rules say
-pub handed : (s : Settings) (t : Tick) (a : Motion) (torque speed : ℤ) {phase : Phase} {homed follows clamped limited : Bool} {followed : Followed}
+pub handed : (s : Settings) (t : Tick) (a : Motion) (torque speed : ℤ) {phase : Phase} {homed follows clamped limited : Bool} {followed : Option ℤ}
     {home position mode : ℤ} {status : ℕ} → phase ≡ a.phase → homed ≡ homed_in phase
     → followed ≡ target_of t.command (matched_in t a.mode) a.state homed → home ≡ a.home
     → position ≡ position_of s home followed t.position → clamped ≡ clamped_of s followed → follows ≡ is_following followed

@@ -1,8 +1,9 @@
 -- A settings word, branch by branch: what is written, and the verdict, are those of the rule.
 -- Assumes nothing.
+use Rattle.std.specs.Prelude.{Err, Ok}
 use Prim.Native.Nat.{ℕ, zero, suc, ◌+◌, ◌<◌, ◌≤◌}
 use mathlib.Core.Path.{◌≡◌, refl, sym, ap, ap₂, ◌∙◌}
-use mathlib.Core.Bool.{Bool, true, false, true≢false}
+use mathlib.Core.Bool.{Bool, true, false}
 use mathlib.Core.List.{List, [], ◌∷◌, ◌++◌}
 use native.Mathlib.Omega.{arith}
 use borrow.Author.Tests.{lt-ltb}
@@ -10,8 +11,7 @@ use lib.ListN.{take, drop}
 use Rattle.settings.specs.declared.Settings.{Settings}
 use Rattle.settings.specs.declared.Refusal.{Refusal}
 use Rattle.settings.specs.declared.Refusal.TheVariants.{DriveActive}
-use Rattle.settings.specs.declared.Verdict.{Verdict}
-use Rattle.settings.specs.declared.Verdict.TheVariants.{Accepted, Refused}
+use Rattle.settings.specs.Refusal.{Verdict}
 use Rattle.layouts.specs.Layout.{size}
 use Rattle.layouts.proofs.Sizes.{size-least}
 use Rattle.states.specs.States.{live_of}
@@ -42,15 +42,11 @@ inputs-kept l m e =
 pub more-due : (p : Pending) (k x : ℕ) → k < 15 → k ≡ p.count → more p x ≡ kept p k x
 more-due p k x b e = rw (e, lt-ltb p.count 15 (omega (arith, e, b)))
 
-accepted-refused : {r : Refusal} → Accepted ≡ Refused r → ⊥
-accepted-refused {r} e = true≢false (ap is_accepted e)
-  where
-    is_accepted : Verdict → Bool
-    is_accepted Accepted = true
-    is_accepted (Refused r) = false
+accepted-refused : {r : Refusal} → ◌≡◌ {A = Verdict} (Ok tt) (Err r) → ⊥
+accepted-refused e = cc
 
 -- other pending settings alone: the word's data is kept, or it is refused
-pub kept_word : (l m : List ℕ) (ends : Bool) (p : Pending) → Pends l p m → Takes l ends (read_in l (stored p)) m Accepted
+pub kept_word : (l m : List ℕ) (ends : Bool) (p : Pending) → Pends l p m → Takes l ends (read_in l (stored p)) m (Ok tt)
 kept_word l m ends p c =
     record {
       axis = c.axis;
@@ -60,7 +56,7 @@ kept_word l m ends p c =
       refused = λ r e. absurd (accepted-refused e);
     }
 
-pub refused-word : (l m : List ℕ) (ends : Bool) (r : Refusal) → Emptied l m → Takes l ends (read_in l (refused r)) m (Refused r)
+pub refused-word : (l m : List ℕ) (ends : Bool) (r : Refusal) → Emptied l m → Takes l ends (read_in l (refused r)) m (Err r)
 refused-word l m ends r c =
     let p = c.pends in
     record {
@@ -72,7 +68,7 @@ refused-word l m ends r c =
     }
 
 -- an end word that completes settings: refused while the drive is live, else they come into force
-pub live_end : (l : List ℕ) (s : Settings) → live_of (motion_in l).state ≡ true → Completes l s l (Refused DriveActive)
+pub live_end : (l : List ℕ) (s : Settings) → live_of (motion_in l).state ≡ true → Completes l s l (Err DriveActive)
 unfolding axis_in
 live_end l s e = record { axis = rw e; verdict = rw e; inputs = record { before = refl; after = refl }; kept = λ n. refl }
 
@@ -81,7 +77,7 @@ abbrev refilled : Settings → List ℕ → Settings
 refilled s d = settings_from s.offset s.lower s.upper s.option s.homing d
 
 pub takeover-end : (l m : List ℕ) (s : Settings) → s ≡ refilled s (first_values_in l) → live_of (motion_in l).state ≡ false
-    → TakenOver l s.offset s.lower s.upper s.option s.homing m → Completes l s m Accepted
+    → TakenOver l s m → Completes l s m (Ok tt)
 unfolding axis_in
 takeover-end l m s q e c =
     let into : Settings → Axis = λ x. record { active = Set x; pending = pending_in l; motion = idled (motion_in l) } in
@@ -120,11 +116,11 @@ module _ {l : List ℕ} {sum : ℕ} {s : Settings} {w : Verdict} {m : List ℕ} 
       let same : first_values_in m ≡ first_values_in l = ap first_values_in c.emptied.words ∙ cells-past l 23 0 24 14 (omega arith) in
       e ∙ ap₂ refilled (sym e) (sym same)
 
-  pub refused_end : (r : Refusal) → w ≡ Refused r → Takes l true (read_in l (end_read (pending_in l) sum)) m (Refused r)
+  pub refused_end : (r : Refusal) → w ≡ Err r → Takes l true (read_in l (end_read (pending_in l) sum)) m (Err r)
   refused_end r q = rw (ended ∙ ap (judged s) q) (refused-word l m true r c.emptied)
 
   -- the settings come into force or not
-  pub complete-end : (n : List ℕ) (v : Verdict) → w ≡ Accepted → Completes m s n v → Takes l true (read_in l (end_read (pending_in l) sum)) n v
+  pub complete-end : (n : List ℕ) (v : Verdict) → w ≡ Ok tt → Completes m s n v → Takes l true (read_in l (end_read (pending_in l) sum)) n v
   complete-end n v a d =
       let p = c.emptied.pends in
       let x : completed_in m s ≡ read_in l (complete s) = ap (λ (b : Axis). taken b (Complete s)) p.axis in

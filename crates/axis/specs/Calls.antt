@@ -1,10 +1,9 @@
 -- What each call promises of the words that it is lent: l before it, m after it. What they mean is `axis_in`, and the rules say what a
 -- settings word and a tick do to it. The words that are not a call's to write are kept as they are.
 -- Assumes nothing.
-use Rattle.std.specs.Prelude.{ℕ, ◌≡◌, Bool, true, cond, List, ℤ}
+use Rattle.std.specs.Prelude.{ℕ, ◌≡◌, Bool, true, cond, List, ℤ, Err, Ok}
 use Rattle.settings.specs.declared.Refusal.{Refusal}
-use Rattle.settings.specs.declared.Verdict.{Verdict}
-use Rattle.settings.specs.declared.Verdict.TheVariants.{Accepted, Refused}
+use Rattle.settings.specs.Refusal.{Verdict}
 use Rattle.reader.specs.Pending.{Reading, Complete}
 use Rattle.reader.specs.Cases.{is_end}
 use Rattle.counts.specs.Bit.{bit_of}
@@ -33,9 +32,9 @@ pub record Takes (l : List ℕ) (ends : Bool) (x : Worded) (m : List ℕ) (v : V
   -- of motion's words the phase alone may change
   pub inputs : InputsKept l m
   -- and but for an end word that is accepted, which takes settings over, no word of the settings in force or of motion changes
-  pub kept : (v ≡ Accepted → ends ≡ true → ⊥) → SettingsKept l m × MotionKept l m
+  pub kept : (v ≡ Ok tt → ends ≡ true → ⊥) → SettingsKept l m × MotionKept l m
   -- a refused word writes the count of those pending, and nothing else
-  pub refused : (r : Refusal) → v ≡ Refused r → m ≡ emptied l
+  pub refused : (r : Refusal) → v ≡ Err r → m ≡ emptied l
 
 abbrev pub WordCall : List ℕ → ℕ → List ℕ → Verdict → Type 0
 WordCall l w m v = Takes l (is_end w) (word_of (axis_in l) w) m v
@@ -62,7 +61,7 @@ pub record Completes (l : List ℕ) (s : Settings) (m : List ℕ) (v : Verdict) 
   pub axis : axis_in m ≡ (completed_in l s).axis
   pub verdict : v ≡ (completed_in l s).verdict
   pub inputs : InputsKept l m
-  pub kept : (v ≡ Accepted → ⊥) → m ≡ l
+  pub kept : (v ≡ Ok tt → ⊥) → m ≡ l
 
 -- motion with the phase and home of a tick; on: homing is matched and the drive in Operation enabled
 abbrev pub homing_by : Settings → Motion → Tick → Bool → Motion

@@ -13,7 +13,7 @@ ghost use Rattle.axis.specs.Calls.{FreshCall, Takes, read_in, Completes, WordCal
 
 use answers::Answer;
 use cells::Lent;
-use settings::{Refusal, Settings, Verdict};
+use settings::{Refusal, Settings};
 use ticks::Tick;
 use words::KIND;
 
@@ -25,48 +25,48 @@ pub fn fresh(axis: &mut Lent)
 }
 
 // A start word begins afresh.
-fn start(axis: &mut Lent, layout: u32) -> Verdict
+fn start(axis: &mut Lent, layout: u32) -> Result<(), Refusal>
     ensures { Takes axis.old false (read_in axis.old (start_read layout)) axis.new result }
 {
     if layouts::is_layout(layout) {
         cells::begin(axis, layout);
-        Verdict::Accepted
+        Ok(())
     } else {
         cells::empty(axis);
-        Verdict::Refused(Refusal::UnknownLayout)
+        Err(Refusal::UnknownLayout)
     }
 }
 
 // Keeps one word's data, of the kind that is due.
-fn store(axis: &mut Lent, layout: u32, kind: u32, value: u32) -> Verdict
+fn store(axis: &mut Lent, layout: u32, kind: u32, value: u32) -> Result<(), Refusal>
     requires { (layout ≡ layout_in (pending_in axis.old)) × (kind < 15) × (kind ≡ (pending_in axis.old).count) }
     ensures { Takes axis.old false (read_in axis.old (field_read (pending_in axis.old) kind value)) axis.new result }
 {
     if kinds::field_ok(layout, kind, value) {
         cells::append(axis, value);
-        Verdict::Accepted
+        Ok(())
     } else {
         cells::empty(axis);
-        Verdict::Refused(Refusal::OutOfRange)
+        Err(Refusal::OutOfRange)
     }
 }
 
 // Complete settings come into force (01: takeover), unless the drive is live.
-fn complete(axis: &mut Lent, s: Settings) -> Verdict
+fn complete(axis: &mut Lent, s: Settings) -> Result<(), Refusal>
     requires { s ≡ settings_from s.offset s.lower s.upper s.option s.homing (first_values_in axis.old) }
     ensures { Completes axis.old s axis.new result }
 {
     let state = cells::state(axis);
     if states::is_live(state) {
-        Verdict::Refused(Refusal::DriveActive)
+        Err(Refusal::DriveActive)
     } else {
-        cells::take_over(axis, s.offset, s.lower, s.upper, s.option, s.homing);
-        Verdict::Accepted
+        cells::take_over(axis, &s);
+        Ok(())
     }
 }
 
 // An end word closes what is pending.
-fn finish(axis: &mut Lent, sum: u32) -> Verdict
+fn finish(axis: &mut Lent, sum: u32) -> Result<(), Refusal>
     requires { size (layout_in (pending_in axis.old)) ≤ (pending_in axis.old).count }
     ensures { Takes axis.old true (read_in axis.old (end_read (pending_in axis.old) sum)) axis.new result }
 {
@@ -74,13 +74,13 @@ fn finish(axis: &mut Lent, sum: u32) -> Verdict
     let verdict = reader::close(s, cells::checksum(axis), sum);
     cells::empty(axis);
     match verdict {
-        Verdict::Accepted => complete(axis, s),
-        Verdict::Refused(refusal) => Verdict::Refused(refusal),
+        Ok(()) => complete(axis, s),
+        Err(refusal) => Err(refusal),
     }
 }
 
 // One settings word.
-pub fn word(axis: &mut Lent, word: u32) -> Verdict
+pub fn word(axis: &mut Lent, word: u32) -> Result<(), Refusal>
     ensures { WordCall axis.old word axis.new result }
 {
     let kind = word / KIND;
@@ -97,7 +97,7 @@ pub fn word(axis: &mut Lent, word: u32) -> Verdict
         }
     } else {
         cells::empty(axis);
-        Verdict::Refused(Refusal::OutOfSequence)
+        Err(Refusal::OutOfSequence)
     }
 }
 

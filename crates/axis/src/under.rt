@@ -1,5 +1,5 @@
 // A tick under settings. Settings and motion are read where they are used, and what the tick leaves is written as soon as it is known: few
-// values are alive at a time. The tick's switches are made bits once.
+// values are alive at a time.
 ghost use Rattle.std.specs.Prelude.{◌≡◌, true};
 ghost use Rattle.commands.specs.Commands.{mode_of, whole_demand};
 ghost use Rattle.legs.specs.Numbers.{leg_from};
@@ -25,10 +25,17 @@ use commands::Demand;
 use legs::events;
 use legs::events::Seen;
 use modes::Mode;
-use position::Followed;
 use states::State;
 use ticks::Tick;
 use torque::LimitSet;
+
+// A tick, and its switches as bits, which are made once.
+#[derive(Clone, Copy)]
+struct Inputs {
+    tick: Tick,
+    switches: u32,
+    ghost same: { switches ≡ switch_bits tick.switches },
+}
 
 // The drive after a tick.
 #[derive(Clone, Copy)]
@@ -78,17 +85,17 @@ fn torque_in(axis: &Lent, mode: Mode, set: LimitSet, on: bool, demand: Demand) -
 }
 
 // What homing sees of a tick in which it is matched and the drive in Operation enabled.
-fn seen(axis: &Lent, t: Tick, switches: u32) -> Seen
-    requires { switches ≡ switch_bits t.switches }
-    ensures { view_of result ≡ view_with (motion_in axis.now).switches (motion_in axis.now).position t true }
+fn seen(axis: &Lent, inputs: &Inputs) -> Seen
+    ensures { view_of result ≡ view_with (motion_in axis.now).switches (motion_in axis.now).position inputs.now.tick true }
 {
+    let t = &inputs.tick;
     let movement = counts::moved(t.position, cells::position(axis));
     Seen {
         kept: counts::bit(t.control, 4),
         halted: counts::bit(t.control, 8),
         movement,
         before: cells::switches(axis),
-        now: switches,
+        now: inputs.switches,
     }
 }
 
@@ -122,19 +129,19 @@ fn settle(axis: &mut Lent, phase: u32, halted: bool, position: i32) -> i32
 }
 
 // Homing in a tick in which it is matched and the drive in Operation enabled.
-fn in_homing(axis: &mut Lent, t: Tick, switches: u32) -> i32
-    requires { switches ≡ switch_bits t.switches }
-    ensures { Homes axis.old t true axis.new result }
+fn in_homing(axis: &mut Lent, inputs: &Inputs) -> i32
+    ensures { Homes axis.old inputs.now.tick true axis.new result }
 {
+    let t = &inputs.tick;
     let method = cells::method(axis);
     let halted = counts::bit(t.control, 8);
     if control::rising(cells::control(axis), t.control, 4) {
-        let started = homing::start(method, switches);
+        let started = homing::start(method, inputs.switches);
         return settle(axis, started, halted, t.position);
     }
     let phase = cells::phase(axis);
     if homing::is_running(phase) {
-        let stepped = homing::step(phase, method, seen(axis, t, switches));
+        let stepped = homing::step(phase, method, seen(axis, inputs));
         settle(axis, stepped, halted, t.position)
     } else {
         0
@@ -150,30 +157,29 @@ fn out_of_homing(axis: &mut Lent)
 }
 
 // Homing's part of a tick. Returns the speed.
-fn homing_after(axis: &mut Lent, t: Tick, switches: u32, on: bool) -> i32
-    requires { switches ≡ switch_bits t.switches }
-    ensures { Homes axis.old t on axis.new result }
+fn homing_after(axis: &mut Lent, inputs: &Inputs, on: bool) -> i32
+    ensures { Homes axis.old inputs.now.tick on axis.new result }
 {
     if on {
-        in_homing(axis, t, switches)
+        in_homing(axis, inputs)
     } else {
         out_of_homing(axis);
         0
     }
 }
 
-// A commanded position, and whether its target was clamped.
+// A commanded position, and whether its target was clamped. Kept: a flag beside the value, which counts whatever the flag says.
 #[derive(Clone, Copy)]
 struct Place {
     position: i32,
     clamped: bool,
 }
 
-fn place_in(axis: &Lent, home: i32, followed: Followed, actual: i32) -> Place
+fn place_in(axis: &Lent, home: i32, followed: Option<i32>, actual: i32) -> Place
     ensures position { result.position ≡ position_of (settings_in axis.now) home followed actual }
     ensures clamped { result.clamped ≡ clamped_of (settings_in axis.now) followed }
 {
-    if answers::following(followed) {
+    if followed.is_some() {
         let s = cells::settings_in(axis);
         Place {
             position: position::position(s, home, followed, actual),
@@ -188,19 +194,19 @@ fn place_in(axis: &Lent, home: i32, followed: Followed, actual: i32) -> Place
 }
 
 // What the tick hands out, by the motion that it has left.
-fn answer(axis: &Lent, t: Tick, d: Drive, switches: u32, torque: i32, speed: i32) -> Answer
-    requires { switches ≡ switch_bits t.switches }
-    ensures { result ≡ answer_by (settings_in axis.now) t (driven (motion_in axis.now) d.state d.mode d.alarm) torque speed }
+fn answer(axis: &Lent, inputs: &Inputs, d: Drive, torque: i32, speed: i32) -> Answer
+    ensures { result ≡ answer_by (settings_in axis.now) inputs.now.tick (driven (motion_in axis.now) d.state d.mode d.alarm) torque speed }
 {
+    let t = &inputs.tick;
     let command = t.command;
     let mode = d.mode;
     let state = d.state;
     let phase = cells::phase(axis);
     let followed = ticks::command_target(command, mode, state, homing::is_homed(phase));
     let place = place_in(axis, cells::home(axis), followed, t.position);
-    let following = answers::following(followed);
-    let positive = events::positive_on(switches);
-    let negative = events::negative_on(switches);
+    let following = followed.is_some();
+    let positive = events::positive_on(inputs.switches);
+    let negative = events::negative_on(inputs.switches);
     let limited = status::limit_active(positive, negative, place.clamped);
     Answer {
         number: 0,
@@ -218,9 +224,11 @@ pub fn tick(axis: &mut Lent, t: Tick) -> Answer
     ensures { Runs axis.old t axis.new result }
 {
     let command = t.command;
-    let switches = t.switches;
     let set = t.set;
-    let bits = patterns::switch_bits(switches);
+    let inputs = Inputs {
+        tick: t,
+        switches: u32::from(t.switches),
+    };
     let demand = commands::torque_demand(command, cells::rated(axis));
     let wanted = commands::mode(command);
     let d = drive_after(axis, t, wanted, commands::alarms(demand, t.alarm));
@@ -229,7 +237,7 @@ pub fn tick(axis: &mut Lent, t: Tick) -> Answer
     let on = states::is_live(state) & modes::is_matched(wanted, mode);
     let torque = torque_in(axis, mode, set, on, demand);
     cells::put_drive(axis, state, mode, d.alarm);
-    let speed = homing_after(axis, t, bits, ticks::homing_on(wanted, mode, state));
-    cells::put_inputs(axis, t.control, bits, t.position);
-    answer(axis, t, d, bits, torque, speed)
+    let speed = homing_after(axis, &inputs, ticks::homing_on(wanted, mode, state));
+    cells::put_inputs(axis, t.control, inputs.switches, t.position);
+    answer(axis, &inputs, d, torque, speed)
 }

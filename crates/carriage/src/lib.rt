@@ -2,7 +2,6 @@
 #![tactic(auto)]
 
 ghost use Rattle.std.specs.Prelude.{◌≡◌};
-ghost use Rattle.counts.specs.Between.{between};
 ghost use Rattle.legs.specs.Numbers.{leg_from};
 ghost use Rattle.carriage.specs.Rail.{sized, sizes_fit, ticks_fit, cam_fits, on_rail, rail_fits, switches_at, cells_of, stride_of};
 
@@ -21,18 +20,14 @@ pub struct Rail {
     pub slow: u32,
 }
 
-fn within(low: u32, high: u32, n: u32) -> bool
-    ensures { result ≡ between low high n }
-{
-    (low <= n) & (n <= high)
-}
-
+#[tactic(auto, unfolding(crate::specs::Rail::sized))]
 fn is_sized(n: u32) -> bool
     ensures { result ≡ sized n }
 {
-    within(1, 0x100000, n)
+    (1..=0x100000).contains(&n)
 }
 
+#[tactic(auto, unfolding(crate::specs::Rail::sizes_fit))]
 fn sizes_fit(rail: Rail) -> bool
     ensures { result ≡ sizes_fit rail }
 {
@@ -43,12 +38,14 @@ fn sizes_fit(rail: Rail) -> bool
         & is_sized(rail.slow)
 }
 
+#[tactic(auto, unfolding(crate::specs::Rail::ticks_fit))]
 fn ticks_fit(ticks: u32) -> bool
     ensures { result ≡ ticks_fit ticks }
 {
-    within(1, 0x1000000, ticks)
+    (1..=0x1000000).contains(&ticks)
 }
 
+#[tactic(auto, unfolding(crate::specs::Rail::cam_fits))]
 fn cam_fits(rail: Rail) -> bool
     ensures { result ≡ cam_fits rail }
 {
@@ -58,11 +55,11 @@ fn cam_fits(rail: Rail) -> bool
 fn is_on_rail(rail: Rail, start: i32) -> bool
     ensures { result ≡ on_rail rail start }
 {
-    let start = start as i64;
-    (0 <= start) & (start < rail.length as i64)
+    (0..rail.length as i64).contains(&(start as i64))
 }
 
 // Whether a run from a start cell, given so many ticks, may be made on the rail.
+#[tactic(auto, unfolding(crate::specs::Rail::rail_fits))]
 pub fn fits(rail: Rail, start: i32, ticks: u32) -> bool
     ensures { result ≡ rail_fits rail start ticks }
 {
@@ -78,7 +75,7 @@ pub fn switches_at(rail: Rail, cell: i64) -> Switches
     Switches {
         positive: rail.length as i64 <= cell,
         negative: cell < 0,
-        home: (first <= cell) & (cell < end),
+        home: (first..end).contains(&cell),
         index: false,
     }
 }

@@ -1,8 +1,9 @@
 -- The words after each write mean what it leaves: spelled out, every store and read at a constant place computes.
 -- Assumes nothing.
-use Rattle.std.proofs.Common.{◌≡◌, ℕ, zero, suc, ◌+◌, ◌-◌, ◌%◌, ◌^◌, ◌<◌, ◌≤◌, List, ◌∷◌, length, set, ℤ, refl, ap, ◌∙◌, ap₂, arith, get_or-set_other}
+use Rattle.std.proofs.Common.{◌≡◌, ℕ, zero, suc, ◌+◌, ◌-◌, ◌%◌, ◌^◌, ◌<◌, ◌≤◌, List, ◌∷◌, length, set, ℤ, refl, ap, ◌∙◌, ap₂, arith, take, drop, get_or, get_or-set_other, get_or-take, get_or-drop}
 use lib.Signed.{mag}
 use Rattle.counts.specs.Wrap.{modulo, signed, wrapped}
+use Rattle.settings.specs.declared.Settings.{Settings}
 use Rattle.states.specs.declared.State.{State}
 use Rattle.states.specs.States.{state_number}
 use Rattle.modes.specs.declared.Mode.{Mode}
@@ -56,13 +57,13 @@ module _ (l : List ℕ) (h : length l ≡ 39) where
   stored-value (suc (suc (suc (suc (suc (suc (suc (suc (suc (suc (suc (suc (suc (suc zero)))))))))))))) x b e = rw (spelled 39 l h, e) (record { axis = refl; settings = refl; motion = refl })
   stored-value (suc (suc (suc (suc (suc (suc (suc (suc (suc (suc (suc (suc (suc (suc (suc k))))))))))))))) x b e = absurd (omega arith)
 
-  pub taken-over : (offset lower upper : ℤ) (option homing : ℕ) → mag offset < 2 ^ 31 → mag lower < 2 ^ 31 → mag upper < 2 ^ 31
-      → TakenOver l offset lower upper option homing
-      (set (set (set (set (set (set (set (copied 13 l) 8 1) 12 (modulo 32 offset)) 15 (modulo 32 lower)) 16 (modulo 32 upper)) 20 option) 22 homing) 3 0)
+  pub taken-over : (s : Settings) → mag s.offset < 2 ^ 31 → mag s.lower < 2 ^ 31 → mag s.upper < 2 ^ 31
+      → TakenOver l s
+      (set (set (set (set (set (set (set (copied 13 l) 8 1) 12 (modulo 32 s.offset)) 15 (modulo 32 s.lower)) 16 (modulo 32 s.upper)) 20 s.option) 22 s.homing) 3 0)
   unfolding axis_in active_in phase_of
-  taken-over offset lower upper option homing f g k =
+  taken-over s f g k =
       record {
-        axis = rw (spelled 39 l h, signed_back offset f, signed_back lower g, signed_back upper k);
+        axis = rw (spelled 39 l h, signed_back s.offset f, signed_back s.lower g, signed_back s.upper k);
         pending = rw (spelled 39 l h);
         motion = rw (spelled 39 l h) (record { before = refl; after = refl });
       }
@@ -94,6 +95,10 @@ pub summed : (l : List ℕ) (k n : ℕ) → total (cells_from k (suc n) l) ≡ t
 unfolding total
 summed l k zero = let i : k + 0 ≡ k = omega arith in rw i (omega arith)
 summed l k (suc n) = let i : k + suc n ≡ suc k + n = omega arith in rw i (let e = summed l (suc k) n in omega (arith, e))
+
+-- a word of a part is a word of the whole
+pub word_of_part : (k n i : ℕ) (l : List ℕ) → i < n → get_or (take n (drop k l)) i 0 ≡ word_at l (k + i)
+word_of_part k n i l h = get_or-take n (drop k l) i 0 h ∙ get_or-drop k l i 0
 
 -- the parts of motion: what is stored reads back
 module _ (l : List ℕ) (h : length l ≡ 39) where

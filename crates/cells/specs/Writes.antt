@@ -1,6 +1,7 @@
 -- What each write leaves: l are the words before it, m those after it. The words that are not its to write are kept as they are.
 -- Assumes nothing.
-use Rattle.std.specs.Prelude.{◌≡◌, ℕ, zero, suc, ◌+◌, cond, List, [], ◌∷◌, ◌++◌, take, drop, replicate, ℤ, nat_lt, slice_set}
+use Rattle.std.specs.Prelude.{◌≡◌, ℕ, zero, suc, ◌+◌, cond, List, [], ◌∷◌, ◌++◌, take, drop, replicate, nat_lt, slice_set}
+use Rattle.settings.specs.declared.Settings.{Settings}
 use Rattle.words.specs.Decode.{settings_from}
 use Rattle.reader.specs.Pending.{Pending}
 use Rattle.reader.specs.Read.{empty_pending, started, kept}
@@ -58,10 +59,10 @@ abbrev pub copied : ℕ → List ℕ → List ℕ
 copied zero l = l
 copied (suc k) l = slice_set (copied k l) (9 + k) (word_at l (25 + k))
 
--- the settings of these values come into force, with those given that layouts carry in their own ways
-pub record TakenOver (l : List ℕ) (offset lower upper : ℤ) (option homing : ℕ) (m : List ℕ) : Type 0 where
+-- the settings of these values come into force, with those of s that layouts carry in their own ways
+pub record TakenOver (l : List ℕ) (s : Settings) (m : List ℕ) : Type 0 where
   pub axis :
-      axis_in m ≡ record { active = Set (settings_from offset lower upper option homing (first_values_in l)); pending = pending_in l; motion = idled (motion_in l) }
+      axis_in m ≡ record { active = Set (settings_from s.offset s.lower s.upper s.option s.homing (first_values_in l)); pending = pending_in l; motion = idled (motion_in l) }
   pub pending : PendingKept l m
   pub motion : InputsKept l m
 

@@ -20,6 +20,7 @@ use words::{KIND, decoder};
 
 // The lent words: motion, the settings in force, what is pending. Motion comes first: a Cortex-M0 reaches the first 32 words of an array in one
 // instruction, and a tick reads and writes motion throughout.
+// Kept: an array and no struct, since C lends these words (c/axis.h) and every content of them is an axis.
 pub type Lent = [u32; 39];
 
 const STATE: usize = 0;
@@ -76,6 +77,8 @@ pub fn is_active(axis: &Lent) -> bool
     axis[ACTIVE] != 0
 }
 
+// Kept: spelled out here and in `first_values`, by a rule of the project (speed on the smallest cores): a loop or a copied slice is a block copy there,
+// and the new form, one list from a given place on, is no plainer: fourteen sums and a premise that they lie in the words.
 fn active_values(axis: &Lent) -> [u32; 14]
     ensures { result ≡ cells_from 8 14 axis.now }
 {
@@ -182,8 +185,8 @@ pub fn checksum(axis: &Lent) -> u32
     ensures { result ≡ checksum_of (values_in axis.now) }
 {
     let mut total = tops(axis);
-    for i in 0..14 {
-        total = std::num::wrapping_add_u32(total, axis[VALUES + i]);
+    for value in &axis[VALUES..TOPS] {
+        total = total.wrapping_add(*value);
     }
     total % KIND
 }
@@ -191,13 +194,13 @@ pub fn checksum(axis: &Lent) -> u32
 pub fn state(axis: &Lent) -> State
     ensures { result ≡ (motion_in axis.now).state }
 {
-    patterns::state_of(axis[STATE])
+    State::from(axis[STATE])
 }
 
 pub fn mode(axis: &Lent) -> Mode
     ensures { result ≡ (motion_in axis.now).mode }
 {
-    patterns::mode_of(axis[MODE])
+    Mode::from(axis[MODE])
 }
 
 pub fn alarm(axis: &Lent) -> u32
@@ -274,6 +277,8 @@ pub fn append(axis: &mut Lent, value: u32)
     }
 }
 
+// Kept: a `for` over places, for a rule of the project (speed on the smallest cores). `copy_within` or a copied slice becomes a call to memmove,
+// which a core that asks for alignment makes byte by byte.
 fn copy_values(axis: &mut Lent)
     ensures { axis.new ≡ copied 13 axis.old }
 {
@@ -282,19 +287,19 @@ fn copy_values(axis: &mut Lent)
     }
 }
 
-// The settings of the values that are pending come into force, with those given that layouts carry in their own ways, and homing is idle (01:
+// Settings whose values are pending come into force: the values are copied, what layouts carry in their own ways is stored, and homing is idle (01:
 // takeover).
-pub fn take_over(axis: &mut Lent, offset: i32, lower: i32, upper: i32, option: u32, homing: u32)
-    ensures { TakenOver axis.old offset lower upper option homing axis.new }
+pub fn take_over(axis: &mut Lent, s: &Settings)
+    ensures { TakenOver axis.old s.now axis.new }
 {
     lent(*axis);
     copy_values(axis);
     axis[ACTIVE] = 1;
-    axis[OFFSET] = counts::pattern(offset);
-    axis[LOWER] = counts::pattern(lower);
-    axis[UPPER] = counts::pattern(upper);
-    axis[OPTION] = option;
-    axis[HOMING] = homing;
+    axis[OFFSET] = counts::pattern(s.offset);
+    axis[LOWER] = counts::pattern(s.lower);
+    axis[UPPER] = counts::pattern(s.upper);
+    axis[OPTION] = s.option;
+    axis[HOMING] = s.homing;
     axis[PHASE] = homing::IDLE;
 }
 
@@ -303,8 +308,8 @@ pub fn put_drive(axis: &mut Lent, state: State, mode: Mode, alarm: u32)
     ensures { Moved axis.old (driven (motion_in axis.old) state mode alarm) axis.new }
 {
     lent(*axis);
-    axis[STATE] = states::state_number(state);
-    axis[MODE] = modes::ordinal(mode);
+    axis[STATE] = u32::from(state);
+    axis[MODE] = u32::from(mode);
     axis[ALARM] = alarm;
 }
 

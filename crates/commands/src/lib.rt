@@ -2,7 +2,7 @@
 #![tactic(auto)]
 
 ghost use Rattle.std.specs.Prelude.{◌≡◌};
-ghost use Rattle.commands.specs.Commands.{mode_of, target_in, demand_of, with_bit31, alarm_of};
+ghost use Rattle.commands.specs.Commands.{mode_of, demand_of, alarm_of};
 
 use hybrid::Hybrid;
 use modes::Mode;
@@ -37,58 +37,24 @@ pub fn mode(command: Command) -> Mode
     }
 }
 
-// The target of a position command; 0 of any other.
-pub fn position_target(command: Command) -> i32
-    ensures { result ≡ target_in command }
-{
-    match command {
-        Command::Hybrid(_) => 0,
-        Command::Homing(_) => 0,
-        Command::Position(target, _) => target,
-        Command::Torque(_) => 0,
-        Command::Rest => 0,
-    }
-}
-
 pub fn torque_demand(command: Command, rated: u32) -> Demand
     ensures { result ≡ demand_of command rated }
 {
     match command {
         Command::Hybrid(h) => Demand::Quotient(hybrid::quotient(h, rated)),
-        Command::Homing(request) => Demand::Request(request),
-        Command::Position(_, request) => Demand::Request(request),
-        Command::Torque(request) => Demand::Request(request),
+        Command::Homing(request) | Command::Position(_, request) | Command::Torque(request) =>
+            Demand::Request(request),
         Command::Rest => Demand::Request(0),
     }
 }
 
-// An alarm word with bit 31 set.
-fn raised(alarm: u32) -> u32
-    ensures { result ≡ with_bit31 alarm }
-{
-    if alarm < 0x80000000 {
-        alarm + 0x80000000
-    } else {
-        alarm
-    }
-}
-
-fn quotient_alarm(q: f32, alarm: u32) -> u32
-    ensures { result ≡ alarm_of (Demand.Quotient q) alarm }
-{
-    if hybrid::is_finite(q) {
-        alarm
-    } else {
-        raised(alarm)
-    }
-}
-
 // The alarm word of a tick: bit 31 joins it where hybrid's quotient is not finite, whatever the mode.
+#[tactic(auto, using(crate::proofs::Alarm::joined))]
 pub fn alarms(demand: Demand, alarm: u32) -> u32
     ensures { result ≡ alarm_of demand alarm }
 {
     match demand {
-        Demand::Request(_) => alarm,
-        Demand::Quotient(q) => quotient_alarm(q, alarm),
+        Demand::Quotient(q) if !hybrid::is_finite(q) => alarm | 0x8000_0000,
+        Demand::Quotient(_) | Demand::Request(_) => alarm,
     }
 }

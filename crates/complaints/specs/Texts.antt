@@ -7,19 +7,6 @@ use Rattle.lines.specs.declared.Trouble.{Trouble}
 use Rattle.numerals.specs.Writing.{decimal}
 use Rattle.tokens.specs.Ascii.{ascii}
 
--- the row of what was expected in the code's list
-abbrev pub expected_row : Expected → ℕ
-expected_row Keyword = 0
-expected_row Digits = 1
-expected_row Whole = 2
-expected_row Float = 3
-expected_row Command = 4
-expected_row At = 5
-expected_row Switches = 6
-expected_row Standstill = 7
-expected_row Set = 8
-expected_row End = 9
-
 -- a first word that no line has: the lines of the base are named, and no later one, since the text of its answers never changes
 abbrev pub expected_text : Expected → List ℕ
 expected_text Keyword = ascii " expected word, tick, sheet or fresh\n"

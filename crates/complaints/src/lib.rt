@@ -2,59 +2,49 @@
 #![tactic(auto)]
 
 ghost use Rattle.std.specs.Prelude.{◌≡◌};
-ghost use Rattle.complaints.specs.Texts.{expected_row, expected_text, line_and_column_text, unreadable_text, long_text};
-ghost use Rattle.page.specs.Page.{Printed};
+ghost use Rattle.complaints.specs.Texts.{expected_text, line_and_column_text, unreadable_text, long_text};
+ghost use Rattle.page.specs.Page.{seen, printed};
 
 use cursors::Expected;
 use lines::Trouble;
+use page::Page;
 
-fn expected_row(expected: Expected) -> usize
-    ensures { result ≡ expected_row expected }
+// The first phrase names the lines of the base alone: the text of its answers never changes.
+fn expected(expected: Expected) -> &'static [u8]
+    ensures { result.now ≡ expected_text expected }
 {
     match expected {
-        Expected::Keyword => 0,
-        Expected::Digits => 1,
-        Expected::Whole => 2,
-        Expected::Float => 3,
-        Expected::Command => 4,
-        Expected::At => 5,
-        Expected::Switches => 6,
-        Expected::Standstill => 7,
-        Expected::Set => 8,
-        Expected::End => 9,
+        Expected::Keyword => b" expected word, tick, sheet or fresh\n",
+        Expected::Digits => b" expected hexadecimal digits\n",
+        Expected::Whole => b" expected a whole number\n",
+        Expected::Float => b" expected a float\n",
+        Expected::Command => b" expected a command\n",
+        Expected::At => b" expected at\n",
+        Expected::Switches => b" expected switches\n",
+        Expected::Standstill => b" expected still or moving\n",
+        Expected::Set => b" expected set1 or set2\n",
+        Expected::End => b" expected end of line\n",
     }
 }
 
-// The first phrase names the lines of the base alone: the text of its answers never changes.
-fn expected(out: &mut [u8], at: usize, expected: Expected) -> usize
-    ensures { Printed out.old at (expected_text expected) out.new result }
+fn line_and_column(page: &mut Page, line: u64, column: u64)
+    ensures { seen page.new ≡ printed (seen page.old) (line_and_column_text line column) }
 {
-    phrases::nth(
-        out,
-        at,
-        b" expected word, tick, sheet or fresh\n expected hexadecimal digits\n expected a whole number\n expected a float\n expected a command\n expected at\n expected switches\n expected still or moving\n expected set1 or set2\n expected end of line\n",
-        expected_row(expected),
-    )
+    page.named(b"unreadable ", line);
+    page.named(b" ", column);
 }
 
-fn line_and_column(out: &mut [u8], line: u64, column: u64) -> usize
-    ensures { Printed out.old 0 (line_and_column_text line column) out.new result }
+pub fn unreadable(page: &mut Page, line: u64, trouble: Trouble)
+    ensures { seen page.new ≡ printed (seen page.old) (unreadable_text line trouble) }
 {
-    let at = phrases::named_decimal(out, 0, b"unreadable ", line);
-    phrases::named_decimal(out, at, b" ", column)
+    line_and_column(page, line, trouble.column as u64);
+    page.text(expected(trouble.expected));
 }
 
-pub fn unreadable(out: &mut [u8], line: u64, trouble: Trouble) -> usize
-    ensures { Printed out.old 0 (unreadable_text line trouble) out.new result }
+#[tactic(auto, using(page::proofs::Printing::printed_then))]
+pub fn too_long(page: &mut Page, line: u64)
+    ensures { seen page.new ≡ printed (seen page.old) (long_text line) }
 {
-    let what = trouble.expected;
-    let at = line_and_column(out, line, trouble.column as u64);
-    expected(out, at, what)
-}
-
-pub fn too_long(out: &mut [u8], line: u64) -> usize
-    ensures { Printed out.old 0 (long_text line) out.new result }
-{
-    let at = line_and_column(out, line, 256);
-    page::text(out, at, b" line too long\n")
+    line_and_column(page, line, 256);
+    page.text(b" line too long\n");
 }

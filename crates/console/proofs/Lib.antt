@@ -1,2 +1,3 @@
-pub mod Pages
+pub mod Replies
 pub mod Streams
+pub mod Inputs

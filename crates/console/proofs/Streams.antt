@@ -1,155 +1,162 @@
--- A chunk up to its next LF, fed to a stream byte by byte, and taken by a console at once.
+-- What is left of a chunk, up to its next LF: fed to a stream byte by byte, and taken by a console at once.
 -- Assumes nothing.
 use Prim.Native.Nat.{ℕ, suc, ◌+◌, ◌≤◌, ◌<◌}
 use mathlib.Core.Bool.{Bool, true, false, cond}
 use mathlib.Core.List.{List, [], ◌∷◌, ◌++◌, append_assoc, append-nil}
 use mathlib.Core.Path.{◌≡◌, refl, sym, ap, subst, ◌∙◌}
 use native.Mathlib.Omega.{arith}
-use borrow.Author.Tests.{ltb-true, ltb-false, le-ltb}
+use borrow.Author.Tests.{ltb-true, ltb-false}
 use lib.Dec.{eqb}
-use lib.ListN.{length, take, drop, length-drop, drop_of_length-le}
-use lib.Seq.{take-nil, drop-drop}
+use lib.ListN.{length, take, drop}
+use Rattle.std.specs.Prelude.{Option, Some, None}
+use Rattle.std.specs.Io.KnownBytes.{Appends}
 use Rattle.scan.specs.Bytes.{index_of, index_after}
 use Rattle.gather.specs.declared.Held.{Held}
-use Rattle.gather.specs.declared.Ended.{Ended}
-use Rattle.gather.specs.declared.Ended.TheVariants.{Text, TooLong}
-use Rattle.gather.specs.Lines.{Holds, part_of, ends_in, past_line, ended_of, ended_in}
-use Rattle.gather.proofs.Ends.{room-enough, text-held}
-use Rattle.lines.specs.Lines.{line_of}
-use Rattle.complaints.specs.Texts.{long_text}
-use Rattle.session.specs.declared.Session.{Session}
-use Rattle.session.specs.Answering.{Conversation, meant, fresh_conversation, counted, conversation_after, text_of}
+use Rattle.gather.specs.Lines.{Holds, part_of, ends_in, rest_of}
+use Rattle.session.specs.Answering.{Conversation, meant}
 use Rattle.console.specs.declared.Console.{Console}
-use Rattle.console.specs.Stream.{none_held, Stream, before_input, after_ended, after_line, answer_ended, answer_to, with_byte, with_bytes, finished_by, InStep, StillInStep}
+use Rattle.console.specs.declared.Output.{Output}
+use Rattle.console.specs.Stream.{Stream, after_line, answer_to, with_byte, with_bytes, InStep}
+use Rattle.console.specs.Written.{answer_at, answers_to, Writes, AllAnswered}
 
 abbrev at : Conversation → List ℕ → Stream
 at s line = record { conversation = s; line = line }
 
+-- ---- to the next LF, and where there is none: where the stream stands, and what is answered
+
+-- a line has ended, and the rest comes after it
+abbrev Passed : Conversation → List ℕ → List ℕ → Stream → List ℕ → Type 0
+Passed s line rest stream text =
+    (stream ≡ with_bytes (at (after_line s line) []) rest) × (text ≡ answer_to s line ++ answers_to (at (after_line s line) []) rest)
+
 past-lf : (ys : List ℕ) (s : Conversation) (line : List ℕ) → index_of 10 ys < length ys
-    → with_bytes (at s line) ys ≡ with_bytes (at (after_line s (line ++ take (index_of 10 ys) ys)) []) (drop (suc (index_of 10 ys)) ys)
-unfolding index_of index_after with_byte
+    → Passed s (line ++ take (index_of 10 ys) ys) (drop (suc (index_of 10 ys)) ys) (with_bytes (at s line) ys) (answers_to (at s line) ys)
+unfolding index_of index_after with_byte answer_at
 past-lf [] s line h = absurd (omega arith)
 past-lf (y ∷ ys) s line h = go (eqb y 10) (past-lf ys s (line ++ y ∷ [])) h
   where
     go : (t : Bool)
         → (index_of 10 ys < length ys
-        → with_bytes (at s (line ++ y ∷ [])) ys ≡ with_bytes (at (after_line s ((line ++ y ∷ []) ++ take (index_of 10 ys) ys)) []) (drop (suc (index_of 10 ys)) ys))
+        → Passed s ((line ++ y ∷ []) ++ take (index_of 10 ys) ys) (drop (suc (index_of 10 ys)) ys) (with_bytes (at s (line ++ y ∷ [])) ys)
+        (answers_to (at s (line ++ y ∷ [])) ys))
         → index_after t (index_of 10 ys) < suc (length ys)
-        → with_bytes (cond t (at (after_line s line) []) (at s (line ++ y ∷ []))) ys
-        ≡ with_bytes (at (after_line s (line ++ take (index_after t (index_of 10 ys)) (y ∷ ys))) []) (drop (suc (index_after t (index_of 10 ys))) (y ∷ ys))
-    go true k h = ap (λ (l : List ℕ). with_bytes (at (after_line s l) []) ys) (sym (append-nil line))
+        → Passed s (line ++ take (index_after t (index_of 10 ys)) (y ∷ ys)) (drop (suc (index_after t (index_of 10 ys))) (y ∷ ys))
+        (with_bytes (cond t (at (after_line s line) []) (at s (line ++ y ∷ []))) ys)
+        (cond t (answer_to s line) [] ++ answers_to (cond t (at (after_line s line) []) (at s (line ++ y ∷ []))) ys)
+    go true k h =
+        subst (λ (l : List ℕ). Passed s l ys (with_bytes (at (after_line s line) []) ys) (answer_to s line ++ answers_to (at (after_line s line) []) ys))
+        (sym (append-nil line)) (refl, refl)
     go false k h =
-        k (omega arith) ∙ ap (λ (l : List ℕ). with_bytes (at (after_line s l) []) (drop (suc (index_of 10 ys)) ys)) (append_assoc line (y ∷ []) (take (index_of 10 ys) ys))
+        subst (λ (l : List ℕ). Passed s l (drop (suc (index_of 10 ys)) ys) (with_bytes (at s (line ++ y ∷ [])) ys) (answers_to (at s (line ++ y ∷ [])) ys))
+        (append_assoc line (y ∷ []) (take (index_of 10 ys) ys)) (k (omega arith))
 
-no-lf : (ys : List ℕ) (s : Conversation) (line : List ℕ) → length ys ≤ index_of 10 ys → with_bytes (at s line) ys ≡ at s (line ++ take (index_of 10 ys) ys)
-unfolding index_of index_after with_byte
-no-lf [] s line h = ap (at s) (sym (append-nil line))
+-- the line goes on
+abbrev Open : Conversation → List ℕ → Stream → List ℕ → Type 0
+Open s line stream text = (stream ≡ at s line) × (text ≡ [])
+
+no-lf : (ys : List ℕ) (s : Conversation) (line : List ℕ) → length ys ≤ index_of 10 ys
+    → Open s (line ++ take (index_of 10 ys) ys) (with_bytes (at s line) ys) (answers_to (at s line) ys)
+unfolding index_of index_after with_byte answer_at
+no-lf [] s line h = (ap (at s) (sym (append-nil line)), refl)
 no-lf (y ∷ ys) s line h = go (eqb y 10) (no-lf ys s (line ++ y ∷ [])) h
   where
-    go : (t : Bool) → (length ys ≤ index_of 10 ys → with_bytes (at s (line ++ y ∷ [])) ys ≡ at s ((line ++ y ∷ []) ++ take (index_of 10 ys) ys))
+    go : (t : Bool)
+        → (length ys ≤ index_of 10 ys
+        → Open s ((line ++ y ∷ []) ++ take (index_of 10 ys) ys) (with_bytes (at s (line ++ y ∷ [])) ys) (answers_to (at s (line ++ y ∷ [])) ys))
         → suc (length ys) ≤ index_after t (index_of 10 ys)
-        → with_bytes (cond t (at (after_line s line) []) (at s (line ++ y ∷ []))) ys ≡ at s (line ++ take (index_after t (index_of 10 ys)) (y ∷ ys))
+        → Open s (line ++ take (index_after t (index_of 10 ys)) (y ∷ ys)) (with_bytes (cond t (at (after_line s line) []) (at s (line ++ y ∷ []))) ys)
+        (cond t (answer_to s line) [] ++ answers_to (cond t (at (after_line s line) []) (at s (line ++ y ∷ []))) ys)
     go true k h = absurd (omega arith)
-    go false k h = k (omega arith) ∙ ap (at s) (append_assoc line (y ∷ []) (take (index_of 10 ys) ys))
+    go false k h =
+        subst (λ (l : List ℕ). Open s l (with_bytes (at s (line ++ y ∷ [])) ys) (answers_to (at s (line ++ y ∷ [])) ys))
+        (append_assoc line (y ∷ []) (take (index_of 10 ys) ys)) (k (omega arith))
 
-nothing-held : (line : List ℕ) → Holds line none_held []
-nothing-held line =
-    record {
-      count = omega arith;
-      over = sym (le-ltb (length line) 0 (omega arith));
-      bytes = sym (take-nil (length line));
-    }
-
-module _ (chunk line line' : List ℕ) (from next : ℕ) (c : Console) (held : Held) (st : Stream) (where_next : next ≡ past_line chunk from)
-    (holds : (bs : List ℕ) → Holds line c.held bs → Holds line' held (bs ++ part_of chunk from)) (before : InStep line c st) where
-  abbrev ys : List ℕ
-  ys = drop from chunk
-
-  holds-part : Holds line' held (st.line ++ part_of chunk from)
-  holds-part = holds st.line before.held
-
-  -- the line goes on past the chunk
-  pub line-open : ends_in chunk from ≡ false → StillInStep chunk from next line' (record { session = c.session; held = held }) st
-  line-open e =
-      record {
-        stream = at st.conversation (st.line ++ part_of chunk from);
-        in_step = record { session = before.session; held = holds-part };
-        rest =
-            no-lf ys st.conversation st.line (ltb-false (index_of 10 ys) (length ys) e)
-            ∙ ap (with_bytes (at st.conversation (st.line ++ part_of chunk from))) (sym (drop_of_length-le chunk past));
-      }
+-- there is an LF, or none, as `Held::take` says
+module _ (chunk : List ℕ) where
+  found : (rest : List ℕ) → Some rest ≡ rest_of chunk → (index_of 10 chunk < length chunk) × (rest ≡ drop (suc (index_of 10 chunk)) chunk)
+  found rest = go (ends_in chunk) refl
     where
-      past : length chunk ≤ next
-      past = let l = ltb-false (index_of 10 ys) (length ys) e in omega (arith, rw e at where_next, length-drop from chunk, l)
+      go : (t : Bool) → ends_in chunk ≡ t → Some rest ≡ cond t (Some (drop (index_of 10 chunk + cond t 1 0) chunk)) None
+          → (index_of 10 chunk < length chunk) × (rest ≡ drop (suc (index_of 10 chunk)) chunk)
+      go true e r =
+          let j : index_of 10 chunk + 1 ≡ suc (index_of 10 chunk) = omega arith in
+          (ltb-true (index_of 10 chunk) (length chunk) e, rw (sym j) cc)
+      go false e r = let z : Some rest ≡ None = r in cc
 
-  -- the line ends in the chunk, and is answered
-  pub line-ends : (s : Session) (none : Held) → ends_in chunk from ≡ true → ((bs : List ℕ) → Holds line' held bs → meant s ≡ after_line (meant c.session) bs)
-      → none ≡ none_held → StillInStep chunk from next line' (record { session = s; held = none }) st
-  line-ends s none e a n =
-      record {
-        stream = at (after_line st.conversation (st.line ++ part_of chunk from)) [];
-        in_step =
-            record {
-              session = a (st.line ++ part_of chunk from) holds-part ∙ ap (λ (x : Conversation). after_line x (st.line ++ part_of chunk from)) before.session;
-              held = rw n (nothing-held line');
-            };
-        rest =
-            past-lf ys st.conversation st.line (ltb-true (index_of 10 ys) (length ys) e)
-            ∙ ap (with_bytes (at (after_line st.conversation (st.line ++ part_of chunk from)) []))
-            (drop-drop (suc (index_of 10 ys)) from chunk ∙ ap (λ (k : ℕ). drop k chunk) past);
-      }
+  not_found : None ≡ rest_of chunk → length chunk ≤ index_of 10 chunk
+  not_found = go (ends_in chunk) refl
     where
-      past : from + suc (index_of 10 ys) ≡ next
-      past = omega (arith, rw e at where_next)
+      go : (t : Bool) → ends_in chunk ≡ t → None ≡ cond t (Some (drop (index_of 10 chunk + cond t 1 0) chunk)) None → length chunk ≤ index_of 10 chunk
+      go true e r = cc
+      go false e r = ltb-false (index_of 10 chunk) (length chunk) e
 
--- a line that has ended, in a buffer with room for every line, is answered as its bytes ask
-module _ (s : Conversation) (line bs : List ℕ) (room : 256 ≤ length line) where
-  ended : {r : Ended} → ended_in (length line) bs ≡ r → ended_of bs ≡ r
-  ended e = sym (room-enough (length line) bs room) ∙ e
+-- ---- what is written
 
-  pub text-answered : (h : Held) (n : ℕ) → Holds line h bs → ended_in (length line) bs ≡ Text n → conversation_after (counted s) (line_of (take n line)) ≡ after_line s bs
-  text-answered h n k e =
-      ap (λ (text : List ℕ). conversation_after (counted s) (line_of text)) (text-held line h bs n room k (ended e)) ∙ sym (ap (after_ended s bs) (ended e))
+appends-then : (a b c : Option (List ℕ)) (xs ys : List ℕ) → Appends a b xs → Appends b c ys → Appends a c (xs ++ ys)
+appends-then None b c xs ys h k = tt
+appends-then (Some ls) None c xs ys h k = absurd h
+appends-then (Some ls) (Some ms) None xs ys h k = absurd k
+appends-then (Some ls) (Some ms) (Some ns) xs ys h k = k ∙ ap (λ (l : List ℕ). l ++ ys) h ∙ append_assoc ls xs ys
 
-  pub text-printed : (h : Held) (n : ℕ) → Holds line h bs → ended_in (length line) bs ≡ Text n → text_of (counted s) (line_of (take n line)) ≡ answer_to s bs
-  text-printed h n k e =
-      ap (λ (text : List ℕ). text_of (counted s) (line_of text)) (text-held line h bs n room k (ended e)) ∙ sym (ap (answer_ended s bs) (ended e))
+appends-nothing : (a : Option (List ℕ)) → Appends a a []
+appends-nothing None = tt
+appends-nothing (Some ls) = sym (append-nil ls)
 
-  pub long-answered : ended_in (length line) bs ≡ TooLong → counted s ≡ after_line s bs
-  long-answered e = sym (ap (after_ended s bs) (ended e))
+module _ {W : Type 0} (contents : W → Option (List ℕ)) where
+  pub writes-then : (a b c : Output W) (xs ys : List ℕ) → Writes contents a b xs → Writes contents b c ys → Writes contents a c (xs ++ ys)
+  writes-then a b c xs ys h k o =
+      let u = k o in
+      let v = h u.0 in (v.0, appends-then (contents a.writer) (contents b.writer) (contents c.writer) xs ys v.1 u.1)
 
-  pub long-printed : ended_in (length line) bs ≡ TooLong → long_text (counted s).lines ≡ answer_to s bs
-  long-printed e = sym (ap (answer_ended s bs) (ended e))
+  pub writes-nothing : (a : Output W) → Writes contents a a []
+  writes-nothing a o = (o, appends-nothing (contents a.writer))
 
--- one step after another
-pub moved_on : {chunk line line' : List ℕ} {from next after : ℕ} {c d : Console} {st : Stream} → (m : StillInStep chunk from next line c st)
-    → StillInStep chunk next after line' d m.stream → StillInStep chunk from after line' d st
-moved_on m n = record { stream = n.stream; in_step = n.in_step; rest = m.rest ∙ n.rest }
+  -- of a chunk all but the rest is answered
+  pub record Served (out out' : Output W) (chunk rest : List ℕ) (c : Console) (st : Stream) : Type 0 where
+    pub stream : Stream
+    pub in_step : InStep c stream
+    pub moved : with_bytes st chunk ≡ with_bytes stream rest
+    pub text : List ℕ
+    pub written : Writes contents out out' text
+    pub answers : answers_to st chunk ≡ text ++ answers_to stream rest
 
--- at the chunk's end
-pub moved-through : {chunk line : List ℕ} {next : ℕ} {c : Console} {st : Stream} → length chunk ≤ next → StillInStep chunk 0 next line c st
-    → InStep line c (with_bytes st chunk)
-moved-through {chunk} {line} {c = c} h m = subst (InStep line c) (sym (m.rest ∙ ap (with_bytes m.stream) (drop_of_length-le chunk h))) m.in_step
+  pub at-first : (out : Output W) (chunk : List ℕ) (c : Console) (st : Stream) → InStep c st → Served out out chunk chunk c st
+  at-first out chunk c st i = record { stream = st; in_step = i; moved = refl; text = []; written = writes-nothing out; answers = refl }
 
-pub fresh-in-step : (s : Session) (h : Held) → meant s ≡ fresh_conversation → h ≡ none_held → (line : List ℕ) → InStep line (record { session = s; held = h }) before_input
-fresh-in-step s h e n line = record { session = e; held = rw n (nothing-held line) }
+  module _ {out out' : Output W} {chunk rest : List ℕ} {c : Console} {st : Stream} (held : Held 256)
+      (holds : (bs : List ℕ) → Holds c.held bs → Holds held (bs ++ part_of rest)) (m : Served out out' chunk rest c st) where
+    abbrev line : List ℕ
+    line = m.stream.line ++ part_of rest
 
--- at the input's end: something is held, or nothing
-pub some_left : {line : List ℕ} {c : Console} {st : Stream} (s : Session) → InStep line c st → 256 ≤ length line → 0 < c.held.length
-    → ((bs : List ℕ) → 256 ≤ length line → Holds line c.held bs → meant s ≡ after_line (meant c.session) bs) → meant s ≡ finished_by st.conversation st.line
-some_left {st = st} s before room h a =
-    a st.line room before.held
-    ∙ ap (λ (x : Conversation). after_line x st.line) before.session
-    ∙ some st.line (omega (arith, h, before.held.count))
-  where
-    some : (bs : List ℕ) → 0 < length bs → after_line st.conversation bs ≡ finished_by st.conversation bs
-    some [] k = absurd (omega arith)
-    some (b ∷ bs) k = refl
+    -- a line ends in what is left, and is answered
+    pub one-line : (out'' : Output W) (after : List ℕ) (d : Console) → Some after ≡ rest_of rest
+        → ((bs : List ℕ) → Holds held bs → meant d.session ≡ after_line (meant c.session) bs)
+        → ((bs : List ℕ) → Holds held bs → Writes contents out' out'' (answer_to (meant c.session) bs))
+        → Holds d.held [] → Served out out'' chunk after d st
+    one-line out'' after d r a w n =
+        let s = m.stream.conversation in
+        let f = found rest after r in
+        let k : Holds held line = holds m.stream.line m.in_step.held in
+        let p : Passed s line after (with_bytes m.stream rest) (answers_to m.stream rest) =
+        subst (λ (l : List ℕ). Passed s line l (with_bytes m.stream rest) (answers_to m.stream rest)) (sym f.1) (past-lf rest s m.stream.line f.0)
+        in
+        record {
+          stream = at (after_line s line) [];
+          in_step = record { session = a line k ∙ ap (λ (t : Conversation). after_line t line) m.in_step.session; held = n };
+          moved = m.moved ∙ p.0;
+          text = m.text ++ answer_to s line;
+          written =
+              writes-then out out' out'' m.text (answer_to s line) m.written
+              (subst (λ (t : Conversation). Writes contents out' out'' (answer_to t line)) m.in_step.session (w line k));
+          answers = m.answers ∙ ap (λ (l : List ℕ). m.text ++ l) p.1 ∙ sym (append_assoc m.text (answer_to s line) _);
+        }
 
-pub none_left : {line : List ℕ} {c : Console} {st : Stream} → InStep line c st → 256 ≤ length line → c.held.length ≤ 0
-    → meant c.session ≡ finished_by st.conversation st.line
-none_left {line} {st = st} before room h = before.session ∙ none st.line (omega (arith, h, room, before.held.count))
-  where
-    none : (bs : List ℕ) → length bs ≤ 0 → st.conversation ≡ finished_by st.conversation bs
-    none [] k = refl
-    none (b ∷ bs) k = absurd (omega arith)
+    -- the line goes on past the chunk
+    pub no-line : None ≡ rest_of rest → AllAnswered contents out out' (record { session = c.session; held = held }) chunk st
+    no-line r =
+        let d : Console = record { session = c.session; held = held } in
+        let o = no-lf rest m.stream.conversation m.stream.line (not_found rest r) in
+        record {
+          in_step = subst (InStep d) (sym (m.moved ∙ o.0)) (record { session = m.in_step.session; held = holds m.stream.line m.in_step.held });
+          written = subst (Writes contents out out') (sym (m.answers ∙ ap (λ (l : List ℕ). m.text ++ l) o.1 ∙ append-nil m.text)) m.written;
+        }

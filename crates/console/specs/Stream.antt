@@ -1,17 +1,11 @@
 -- docs/LINES.md: "One line in, one line out, in order": what the bytes of an input come to, one after the other, however the reads cut them.
 -- Assumes nothing.
-use Rattle.std.specs.Prelude.{ℕ, false, cond, List, [], ◌∷◌, ◌++◌, ◌≡◌, eqb, take, drop}
-use Rattle.gather.specs.declared.Ended.{Ended}
-use Rattle.gather.specs.declared.Ended.TheVariants.{Text, TooLong}
-use Rattle.gather.specs.declared.Held.{Held}
+use Rattle.std.specs.Prelude.{ℕ, cond, List, [], ◌∷◌, ◌++◌, ◌≡◌, eqb, Option, Some, None}
 use Rattle.gather.specs.Lines.{Holds, ended_of}
 use Rattle.lines.specs.Lines.{line_of}
 use Rattle.complaints.specs.Texts.{long_text}
 use Rattle.session.specs.Answering.{Conversation, meant, fresh_conversation, counted, conversation_after, text_of}
 use Rattle.console.specs.declared.Console.{Console}
-
-abbrev pub none_held : Held
-none_held = record { length = 0; over = false }
 
 -- the conversation after the lines that have ended, and the bytes since then
 pub record Stream : Type 0 where
@@ -21,21 +15,22 @@ pub record Stream : Type 0 where
 abbrev pub before_input : Stream
 before_input = record { conversation = fresh_conversation; line = [] }
 
-abbrev pub after_ended : Conversation → List ℕ → Ended → Conversation
-after_ended s bs (Text n) = conversation_after (counted s) (line_of (take n bs))
-after_ended s bs TooLong = counted s
+-- after a line of this text, or one that is too long
+abbrev pub after_ended : Conversation → Option (List ℕ) → Conversation
+after_ended s (Some text) = conversation_after (counted s) (line_of text)
+after_ended s None = counted s
 
 -- after a line of these bytes
 abbrev pub after_line : Conversation → List ℕ → Conversation
-after_line s bs = after_ended s bs (ended_of bs)
+after_line s bs = after_ended s (ended_of bs)
 
-abbrev pub answer_ended : Conversation → List ℕ → Ended → List ℕ
-answer_ended s bs (Text n) = text_of (counted s) (line_of (take n bs))
-answer_ended s bs TooLong = long_text (counted s).lines
+abbrev pub answer_ended : Conversation → Option (List ℕ) → List ℕ
+answer_ended s (Some text) = text_of (counted s) (line_of text)
+answer_ended s None = long_text (counted s).lines
 
 -- and its answer
 abbrev pub answer_to : Conversation → List ℕ → List ℕ
-answer_to s bs = answer_ended s bs (ended_of bs)
+answer_to s bs = answer_ended s (ended_of bs)
 
 -- one byte more; "A line ends with LF"
 unfoldable pub with_byte : Stream → ℕ → Stream
@@ -50,13 +45,7 @@ abbrev pub finished_by : Conversation → List ℕ → Conversation
 finished_by s [] = s
 finished_by s (b ∷ bs) = after_line s (b ∷ bs)
 
--- a console, with its buffer, stands where a stream does
-pub record InStep (line : List ℕ) (c : Console) (st : Stream) : Type 0 where
+-- a console stands where a stream does
+pub record InStep (c : Console) (st : Stream) : Type 0 where
   pub session : meant c.session ≡ st.conversation
-  pub held : Holds line c.held st.line
-
--- a console stands at next where the stream would, had it been fed the chunk so far
-pub record StillInStep (chunk : List ℕ) (from next : ℕ) (line : List ℕ) (c : Console) (st : Stream) : Type 0 where
-  pub stream : Stream
-  pub in_step : InStep line c stream
-  pub rest : with_bytes st (drop from chunk) ≡ with_bytes stream (drop next chunk)
+  pub held : Holds c.held st.line

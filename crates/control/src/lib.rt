@@ -4,10 +4,9 @@
 ghost use Rattle.std.specs.Prelude.{◌≡◌};
 ghost use Rattle.control.specs.Control.{control_command_of, bit_rises};
 
-// What a control word asks of the drive; nothing where its bit 7, fault reset, is set.
+// What a control word may ask of the drive.
 #[derive(Clone, Copy)]
 pub enum ControlCommand {
-    Nothing,
     DisableVoltage,
     QuickStop,
     Shutdown,
@@ -15,28 +14,23 @@ pub enum ControlCommand {
     EnableOperation,
 }
 
-pub fn control_command(control: u16) -> ControlCommand
+// What a control word asks of the drive; nothing where its bit 7, fault reset, is set.
+#[tactic(auto, unfolding(crate::specs::Control::control_command_of))]
+pub fn control_command(control: u16) -> Option<ControlCommand>
     ensures { result ≡ control_command_of control }
 {
     if counts::bit(control, 7) {
-        return ControlCommand::Nothing;
-    }
-    if counts::bit(control, 1) {
-        if counts::bit(control, 2) {
-            if counts::bit(control, 0) {
-                if counts::bit(control, 3) {
-                    ControlCommand::EnableOperation
-                } else {
-                    ControlCommand::SwitchOn
-                }
-            } else {
-                ControlCommand::Shutdown
-            }
-        } else {
-            ControlCommand::QuickStop
-        }
+        None
+    } else if !counts::bit(control, 1) {
+        Some(ControlCommand::DisableVoltage)
+    } else if !counts::bit(control, 2) {
+        Some(ControlCommand::QuickStop)
+    } else if !counts::bit(control, 0) {
+        Some(ControlCommand::Shutdown)
+    } else if !counts::bit(control, 3) {
+        Some(ControlCommand::SwitchOn)
     } else {
-        ControlCommand::DisableVoltage
+        Some(ControlCommand::EnableOperation)
     }
 }
 
@@ -44,5 +38,5 @@ pub fn control_command(control: u16) -> ControlCommand
 pub fn rising(before: u16, control: u16, place: u32) -> bool
     ensures { result ≡ bit_rises before control place }
 {
-    !counts::bit(before, place) & counts::bit(control, place)
+    !counts::bit(before, place) && counts::bit(control, place)
 }

@@ -5,7 +5,7 @@ use mathlib.Core.Bool.{Bool, true, false, cond}
 use Prim.Native.Nat.{ℕ, suc, ◌+◌, ◌-◌, ◌*◌, ◌%◌, ◌^◌, ◌≤◌, ◌<◌}
 use native.Mathlib.Omega.{arith}
 use lib.Dec.{ltb}
-use lib.IntN.{ℤ, pos, negsuc, sub_ℕ, ◌+ℤ◌, ◌-ℤ◌}
+use lib.IntN.{ℤ, pos, negsuc, sub_ℕ, ◌+ℤ◌, ◌-ℤ◌, -ℤ-+ℤ_cancel}
 use lib.Signed.{shr_z}
 use mir.Syntax.{w32, w64}
 use mir.Val.{SFits, to_z, of_z}
@@ -56,12 +56,15 @@ pub wrapped-shift : (z : ℤ) → SFits w64 z → shr_z (to_z w64 (of_z w64 z * 
 unfolding wrapped
 wrapped-shift z h = shifted (of_z w64 z) ∙ ap (signed 32) (low_bits z h)
 
--- 2 ^ 32 more is not negative, and is the same modulo 2 ^ 32
-pub raised : (z : ℤ) → SFits w32 z → (k : ℕ) × (z +ℤ pos (2 ^ 32) ≡ pos k) × (k < 2 ^ 33) × (k % 2 ^ 32 ≡ modulo 32 z)
+-- the bits of a number are the number modulo 2 ^ 32, and they are read as signed
+pub bits-modulo : (z : ℤ) → SFits w32 z → of_z w32 z ≡ modulo 32 z
 unfolding modulo
-raised (pos n) h = (n + 2 ^ 32, refl, omega (arith, h.sfits), omega arith)
-raised (negsuc n) h =
-    (2 ^ 32 - suc n, rw (le-ltb (2 ^ 32) (suc n) (omega (arith, h.sfits))), omega arith, omega (arith, h.sfits))
+bits-modulo (pos n) h = omega (arith, h.sfits)
+bits-modulo (negsuc n) h = omega (arith, h.sfits)
+
+pub read-signed : (n : ℕ) → n < 2 ^ 32 → to_z w32 n ≡ signed 32 n
+read-signed n k =
+    signed_is (λ y. to_z w32 n ≡ y) n k (λ h. rw (lt-ltb n (2 ^ 31) h)) (λ h. rw (le-ltb n (2 ^ 31) h))
 
 -- a sum modulo 2 ^ 32 takes each part modulo 2 ^ 32
 modulo-sub : (a b : ℕ) → modulo 32 (sub_ℕ a (suc b)) ≡ (modulo 32 (pos a) + modulo 32 (negsuc b)) % 2 ^ 32
@@ -79,6 +82,22 @@ modulo-add (pos a) (negsuc b) = modulo-sub a b
 modulo-add (negsuc a) (pos b) = modulo-sub b a ∙ omega arith
 modulo-add (negsuc a) (negsuc b) = omega arith
 
+-- so the machine's sum and difference are the wrapped ones
+module _ (a b : ℤ) (h : SFits w32 a) (k : SFits w32 b) where
+  pub sum-wraps : to_z w32 ((of_z w32 a + of_z w32 b) % 2 ^ 32) ≡ wrapped (a +ℤ b)
+  unfolding wrapped
+  sum-wraps =
+      rw (bits-modulo a h, bits-modulo b k)
+      (read-signed ((modulo 32 a + modulo 32 b) % 2 ^ 32) (omega arith) ∙ ap (signed 32) (sym (modulo-add a b)))
+
+  pub difference-wraps : to_z w32 ((of_z w32 a + (2 ^ 32 - of_z w32 b)) % 2 ^ 32) ≡ wrapped (a -ℤ b)
+  unfolding wrapped
+  difference-wraps =
+      let e : (modulo 32 (a -ℤ b) + modulo 32 b) % 2 ^ 32 ≡ modulo 32 a = sym (modulo-add (a -ℤ b) b) ∙ ap (modulo 32) (-ℤ-+ℤ_cancel a b) in
+      rw (bits-modulo a h, bits-modulo b k)
+      (read-signed ((modulo 32 a + (2 ^ 32 - modulo 32 b)) % 2 ^ 32) (omega arith)
+      ∙ ap (signed 32) (omega (arith, e, modulo-below (a -ℤ b), modulo-below b)))
+
 modulo-wrapped : (z : ℤ) → modulo 32 (wrapped z) ≡ modulo 32 z
 unfolding modulo wrapped
 modulo-wrapped z =
@@ -95,6 +114,11 @@ wrapped_sum a b =
 pub wrapped-low : (n : ℕ) → wrapped (pos (n % 2 ^ 32)) ≡ wrapped (pos n)
 unfolding wrapped modulo
 wrapped-low n = ap (signed 32) (omega arith)
+
+-- 32 bits cast to signed are wrapped
+pub cast-wrapped : (n : ℕ) → n < 2 ^ 32 → to_z w32 n ≡ wrapped (pos n)
+unfolding wrapped modulo
+cast-wrapped n h = read-signed n h ∙ ap (signed 32) (omega arith)
 
 -- −1 less z, which is z with every bit turned, may be taken before or after
 pub wrapped-mirror : (n : ℕ) → negsuc 0 -ℤ wrapped (pos n) ≡ wrapped (negsuc n)

@@ -1,1 +1,4 @@
-pub mod Cursor
+pub mod Place
+pub mod Trouble
+pub mod Reading
+pub mod Names

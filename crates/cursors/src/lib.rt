@@ -1,10 +1,13 @@
-// A place in a line's text, moved on word by word.
+// A line's text, read word by word.
 #![tactic(auto)]
 
 ghost use Rattle.std.specs.Prelude.{◌≡◌};
-ghost use Rattle.cursors.specs.Cursor.{line_start, accept_of, refuse_of, judge_of, at_end, line_end};
+ghost use Rattle.cursors.specs.Names.{name_of};
+ghost use Rattle.cursors.specs.Place.{line_start, span_at, bytes_at, past, at_end};
+ghost use Rattle.cursors.specs.Trouble.{trouble_at};
+ghost use Rattle.cursors.specs.Reading.{judged, end_read};
 
-use tokens::Span;
+use std::marker::Model;
 
 // What a line was to have where it cannot be read further.
 #[derive(Clone, Copy)]
@@ -21,76 +24,104 @@ pub enum Expected {
     End,
 }
 
-// Once a word is not accepted the cursor is lost: it stays at that word, with what was expected there.
+// A word that is not accepted: the place where it begins, and what was expected there.
 #[derive(Clone, Copy)]
-pub struct Cursor {
+pub struct Trouble {
     pub at: usize,
-    pub lost: bool,
     pub expected: Expected,
 }
 
-impl Cursor {
-    pub fn start() -> Cursor
-        ensures { result ≡ line_start }
+// A word, and the place where it begins; where none is left it is empty, at the end of the text.
+// Kept: a missing word is an empty word at the end of the text, and no Option: it is refused in its place like any other.
+#[derive(Clone, Copy)]
+pub struct Word<'a> {
+    pub at: usize,
+    pub bytes: &'a [u8],
+}
+
+// A text, and the place from which its next word is looked for. Each reading moves past the words that it takes, also past one that it does not accept.
+#[derive(Drop)]
+pub struct Cursor<'a> {
+    pub text: &'a [u8],
+    pub at: usize,
+}
+
+impl<'a> Model for Cursor<'a> {
+    ghost use Rattle.cursors.specs.Place.{Place};
+
+    ghost Value = { Place };
+
+    ghost view = { λ c. record { text = c.text.now; at = c.at } };
+}
+
+impl Word<'_> {
+    // The word as text; empty where its bytes are none.
+    // Kept: the empty text, and no Option: no name is empty, so that the arms of a match on it read the same, and an Option would put `Some` round each name.
+    pub fn name(&self) -> &str
+        ensures { result.now ≡ name_of self.now.bytes.now }
     {
-        Cursor {
-            at: 0,
-            lost: false,
-            expected: Expected::Keyword,
+        match std::str::from_utf8(self.bytes) {
+            Ok(name) => name,
+            Err(_) => "",
         }
     }
 
-    pub fn accept(self, word: Span) -> Cursor
-        ensures { result ≡ accept_of self word }
+    pub fn trouble(&self, expected: Expected) -> Trouble
+        ensures { result ≡ trouble_at self.now.at expected }
     {
-        if self.lost {
-            self
-        } else {
-            Cursor {
-                at: word.end,
-                lost: false,
-                expected: Expected::Keyword,
-            }
+        Trouble {
+            at: self.at,
+            expected,
         }
     }
 
-    pub fn refuse(self, word: Span, expected: Expected) -> Cursor
-        ensures { result ≡ refuse_of self word expected }
-    {
-        if self.lost {
-            self
-        } else {
-            Cursor {
-                at: word.start,
-                lost: true,
-                expected,
-            }
-        }
-    }
-
-    pub fn judge(self, word: Span, accepted: bool, expected: Expected) -> Cursor
-        ensures { result ≡ judge_of self word accepted expected }
+    // Nothing, where the word is accepted.
+    pub fn judge(&self, accepted: bool, expected: Expected) -> Result<(), Trouble>
+        ensures { result ≡ judged self.now.at accepted expected }
     {
         if accepted {
-            self.accept(word)
+            Ok(())
         } else {
-            self.refuse(word, expected)
+            Err(self.trouble(expected))
+        }
+    }
+}
+
+impl<'a> Cursor<'a> {
+    pub fn new(text: &'a [u8]) -> Cursor<'a>
+        ensures { result ≡ line_start text.now }
+    {
+        Cursor { text, at: 0 }
+    }
+
+    // The next word, and past it.
+    pub fn next(&mut self) -> Word<'a>
+        ensures at { result.at ≡ (span_at self.old).start }
+        ensures bytes { result.bytes.now ≡ bytes_at self.old }
+        ensures moved { self.new ≡ past self.old }
+    {
+        let word = tokens::next(self.text, self.at);
+        self.at = word.end;
+        Word {
+            at: word.start,
+            bytes: &self.text[word.start..word.end],
         }
     }
 
     // Whether no word is left.
-    pub fn at_end(self, text: &[u8]) -> bool
-        ensures { result ≡ at_end text.now self }
+    pub fn at_end(&self) -> bool
+        ensures { result ≡ at_end self.now }
     {
-        let word = tokens::next(text, self.at);
-        word.start == text.len()
+        let word = tokens::next(self.text, self.at);
+        word.start == self.text.len()
     }
 
     // Accepted where no word is left.
-    pub fn end(self, text: &[u8]) -> Cursor
-        ensures { result ≡ line_end text.now self }
+    #[tactic(auto, unfolding(crate::specs::Reading::end_read))]
+    pub fn end(&mut self) -> Result<(), Trouble>
+        ensures { (result, self.new) ≡ end_read self.old }
     {
-        let word = tokens::next(text, self.at);
-        self.judge(word, word.start == text.len(), Expected::End)
+        let accepted = self.at_end();
+        self.next().judge(accepted, Expected::End)
     }
 }

@@ -1,12 +1,12 @@
 -- Demands 1 and 2 over lists of events, by the laws of one word and one tick.
 -- Assumes nothing.
+use Rattle.std.specs.Prelude.{Ok}
 use Prim.Native.Nat.{ℕ, ◌+◌, ◌≤◌}
 use mathlib.Core.Path.{◌≡◌, refl, sym, ap, ◌∙◌, subst}
 use mathlib.Core.List.{List, [], ◌∷◌, ◌++◌, nil≢cons, head-eq_of_cons-eq, tail-eq_of_cons-eq}
 use native.Mathlib.Omega.{arith}
 use lib.ListN.{length}
 use Rattle.settings.specs.declared.Settings.{Settings}
-use Rattle.settings.specs.declared.Verdict.TheVariants as verdict
 use Rattle.settings.specs.Refusal.{verdict_number}
 use Rattle.checks.proofs.Numbers.{passes}
 use Rattle.words.specs.Word.{kind_of, packed as word_by}
@@ -127,7 +127,7 @@ round_trip a l s es w ok e idle =
     let b = axis_from a es in
     let o : (read_of b.pending w).outcome ≡ Complete s = subst (λ (p : Pending). (read_of p w).outcome ≡ Complete s) (sym f.0) (last-completes r (words_in es) w (sym e)) in
     let p : (read_of b.pending w).pending ≡ empty_pending = left-empty b.pending w (λ q. unstored (sym o ∙ q)) in
-    let t : word_of b w ≡ record { axis = after_takeover s (with_pending b empty_pending); verdict = verdict.Accepted } = rw (o, p, idle) in
+    let t : word_of b w ≡ record { axis = after_takeover s (with_pending b empty_pending); verdict = (Ok tt) } = rw (o, p, idle) in
     record {
       accepted = accepted-append a es w f.1 (ap (λ (x : Worded). verdict_number x.verdict) t);
       left = axis-append a es (word w ∷ []) ∙ ap (λ (x : Worded). x.axis) t;

@@ -1,6 +1,7 @@
 -- What the writer fills a buffer with is taken over as the settings that it was given: it accepts what may be sent, and its words are theirs. A later layout
 -- may send what an earlier one may.
 -- Assumes nothing.
+use Rattle.std.specs.Prelude.{Err, Ok}
 use Prim.Native.Nat.{ℕ, ◌≤◌}
 use mathlib.Core.Path.{◌≡◌, refl, ◌∙◌}
 use mathlib.Core.Bool.{Bool, true, false, cond, not}
@@ -10,8 +11,7 @@ use lib.ListN.{length, take, drop}
 use lib.Seq.{take_at}
 use Rattle.settings.specs.declared.Settings.{Settings}
 use Rattle.settings.specs.declared.Refusal.TheVariants.{UnknownLayout, BufferTooShort}
-use Rattle.settings.specs.declared.Verdict.{Verdict}
-use Rattle.settings.specs.declared.Verdict.TheVariants.{Accepted, Refused}
+use Rattle.settings.specs.Refusal.{Verdict}
 use Rattle.layouts.specs.Layout.{is_layout}
 use Rattle.checks.proofs.Numbers.{refused-accepted}
 use Rattle.words.specs.Encode.{words_of}
@@ -22,13 +22,13 @@ use Rattle.roundtrip.proofs.Back.{later-sends}
 use Rattle.demands.specs.Whole.{WrittenTrip, RewrittenTrip}
 use Rattle.demands.proofs.Whole.{round_trip}
 
-module _ (layout : ℕ) (s : Settings) (buffer : List ℕ) (v : write_verdict layout s buffer ≡ Accepted) where
+module _ (layout : ℕ) (s : Settings) (buffer : List ℕ) (v : write_verdict layout s buffer ≡ Ok tt) where
   long-enough : needed layout ≤ length buffer
   unfolding write_verdict
   long-enough = go (not (is_layout layout)) (buffer_too_short layout buffer) refl _ v
     where
       go : (a b : Bool) → buffer_too_short layout buffer ≡ b → (rest : Verdict)
-          → cond a (Refused UnknownLayout) (cond b (Refused BufferTooShort) rest) ≡ Accepted → needed layout ≤ length buffer
+          → cond a (Err UnknownLayout) (cond b (Err BufferTooShort) rest) ≡ Ok tt → needed layout ≤ length buffer
       go true b e rest r = refused-accepted UnknownLayout r
       go false true e rest r = refused-accepted BufferTooShort r
       go false false e rest r = ltb-false (length buffer) (needed layout) e

@@ -1,7 +1,7 @@
 -- A list of settings words and ticks, and what it is answered: each gets the axis as the one before returned or left it.
 -- Assumes nothing.
 use Rattle.std.specs.Prelude.{List, [], ◌∷◌}
-use Rattle.settings.specs.declared.Verdict.{Verdict}
+use Rattle.settings.specs.Refusal.{Verdict}
 use Rattle.rules.specs.Axis.{Axis, fresh_axis}
 use Rattle.answers.specs.declared.Answer.{Answer}
 use Rattle.demands.specs.Events.{Event, word, tick}

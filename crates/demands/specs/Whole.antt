@@ -1,9 +1,8 @@
 -- Demands 1 and 2 over lists of events: no tick after a refused word tells that it came; the words of acceptable settings, in each layout that holds
 -- them, have them taken over, whatever ticks fall between; and settings are in force only where their own words have come.
 -- Assumes nothing.
-use Rattle.std.specs.Prelude.{ℕ, ◌≤◌, ◌≡◌, true, false, List, [], ◌∷◌, ◌++◌, map, length, take}
+use Rattle.std.specs.Prelude.{ℕ, ◌≤◌, ◌≡◌, true, false, List, [], ◌∷◌, ◌++◌, map, length, take, Ok}
 use Rattle.settings.specs.declared.Settings.{Settings}
-use Rattle.settings.specs.declared.Verdict.TheVariants.{Accepted}
 use Rattle.settings.specs.Refusal.{verdict_number}
 use Rattle.layouts.specs.Layout.{is_layout, carries_homing_torque}
 use Rattle.checks.specs.Check.{sendable}
@@ -70,13 +69,13 @@ RoundTrip =
 -- "the writer produces it": what the writer fills a buffer with, fed to any axis as above, has the settings taken over that it was given
 abbrev pub WrittenTrip : Type 0
 WrittenTrip =
-    (a : Axis) (layout : ℕ) (s : Settings) (buffer : List ℕ) (es : List Event) (w : ℕ) → write_verdict layout s buffer ≡ Accepted
+    (a : Axis) (layout : ℕ) (s : Settings) (buffer : List ℕ) (es : List Event) (w : ℕ) → write_verdict layout s buffer ≡ Ok tt
     → words_in es ++ w ∷ [] ≡ take (needed layout) (written layout s buffer) → NotLive a es → TakesOver a s es w
 
 -- 02, (iv): "writing it in layout 2 and reading it loses nothing": the writer accepts the settings of one layout in each later one, and what it fills the
 -- buffer with has the same settings taken over, in every field
 pub record Rewrites (a : Axis) (layout : ℕ) (s : Settings) (buffer : List ℕ) : Type 0 where
-  pub accepted : write_verdict layout s buffer ≡ Accepted
+  pub accepted : write_verdict layout s buffer ≡ Ok tt
   pub taken_over :
       (es : List Event) (w : ℕ) → words_in es ++ w ∷ [] ≡ take (needed layout) (written layout s buffer) → NotLive a es → TakesOver a s es w
 

@@ -1,4 +1,5 @@
 mod Cells
+mod Rows
 pub mod Fits
 pub mod Placed
 pub mod Examples

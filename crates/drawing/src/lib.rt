@@ -1,12 +1,16 @@
-// A run on a paper rail, drawn as text (docs/LINES.md, "A picture"), on a page that the caller lends. What does not fit on the page is cut off.
+// A run on a paper rail, drawn as text (docs/LINES.md, "A picture"), on a page.
+//
+// Kept: a page and a rail as two arguments. In one struct they would be no plainer: the page is borrowed, and each function would have to promise
+// besides that the rail in the struct stays as it is.
 #![tactic(auto)]
 
-ghost use Rattle.std.specs.Prelude.{◌≤◌, cond, ◌≡◌};
-ghost use Rattle.page.specs.Page.{Printed};
+ghost use Rattle.std.specs.Prelude.{List, ◌≤◌, ◌≡◌, ℤ};
+ghost use Rattle.page.specs.Page.{seen, printed};
 ghost use Rattle.drawing.specs.Strip.{columns, column_of, spans, glyph_at, strip_text};
 ghost use Rattle.drawing.specs.Picture.{cam, rail_row, point_row, leg_mark, leg_text, leg_row, leg_rows, ended_at, last_cell, legs_of, end_row, picture_text};
 
 use carriage::Rail;
+use page::Page;
 use simulator::{LegRun, Stop, Trace};
 
 // What stands in column 0, in the last column, and in those between, where no mark stands.
@@ -24,13 +28,6 @@ struct Mark {
     to: u64,
     body: u8,
     head: u8,
-}
-
-// How far a drawing has come: where its text ends, and the cell that the carriage has reached.
-#[derive(Clone, Copy)]
-struct Drawn {
-    end: usize,
-    cell: i64,
 }
 
 // NOT is on below the rail's cells, POT beyond them.
@@ -52,33 +49,28 @@ fn columns(rail: Rail) -> u64
     ensures value { result ≡ columns rail }
     ensures most { result ≤ 58 }
 {
-    if rail.length < 58 {
-        rail.length as u64
-    } else {
-        58
-    }
+    rail.length.min(58) as u64
 }
 
 fn column_of(rail: Rail, cell: i64) -> u64
     ensures { result ≡ column_of rail cell }
 {
-    if cell < 0 {
-        return 0;
-    }
     let columns = columns(rail);
-    if cell < rail.length as i64 {
-        1 + cell as u64 * columns / rail.length as u64
-    } else {
-        columns + 1
+    let length = rail.length as u64;
+    match u64::try_from(cell) {
+        Err(_) => 0,
+        Ok(place) if place < length => 1 + place * columns / length,
+        Ok(_) => columns + 1,
     }
 }
 
 fn spans(mark: Mark, column: u64) -> bool
     ensures { result ≡ spans mark column }
 {
-    ((mark.from <= column) & (column <= mark.to)) | ((mark.to <= column) & (column <= mark.from))
+    (mark.from..=mark.to).contains(&column) || (mark.to..=mark.from).contains(&column)
 }
 
+#[tactic(auto, unfolding(crate::specs::Strip::glyph_at))]
 fn glyph_at(columns: u64, frame: Frame, mark: Mark, column: u64) -> u8
     ensures { result ≡ glyph_at columns frame mark column }
 {
@@ -99,15 +91,13 @@ fn glyph_at(columns: u64, frame: Frame, mark: Mark, column: u64) -> u8
 }
 
 // A row's drawing.
-fn strip(out: &mut [u8], at: usize, rail: Rail, frame: Frame, mark: Mark) -> usize
-    ensures { Printed out.old at (strip_text rail frame mark) out.new result }
+fn strip(page: &mut Page, rail: Rail, frame: Frame, mark: Mark)
+    ensures { seen page.new ≡ printed (seen page.old) (strip_text rail frame mark) }
 {
     let columns = columns(rail);
-    let mut end = at;
     for column in 0..columns + 2 {
-        end = page::byte(out, end, glyph_at(columns, frame, mark, column));
+        page.byte(glyph_at(columns, frame, mark, column));
     }
-    end
 }
 
 // The cam, from its first cell to its last.
@@ -124,25 +114,19 @@ fn cam(rail: Rail) -> Mark
     }
 }
 
-fn rail_row(out: &mut [u8], at: usize, rail: Rail) -> usize
-    ensures { Printed out.old at (rail_row rail) out.new result }
+#[tactic(auto, using(page::proofs::Printing::printed_then))]
+fn rail_row(page: &mut Page, rail: Rail)
+    ensures { seen page.new ≡ printed (seen page.old) (rail_row rail) }
 {
-    let at = strip(out, at, rail, SWITCHES, cam(rail));
-    let at = phrases::named_decimal(out, at, b" cells ", rail.length as u64);
-    page::byte(out, at, b'\n')
+    strip(page, rail, SWITCHES, cam(rail));
+    page.named(b" cells ", rail.length);
+    page.byte(b'\n');
 }
 
 // A row with one glyph, in the column of a cell.
-fn point_row(
-    out: &mut [u8],
-    at: usize,
-    rail: Rail,
-    cell: i64,
-    glyph: u8,
-    name: &[u8],
-    number: i32,
-) -> usize
-    ensures { Printed out.old at (point_row rail cell glyph name.now number) out.new result }
+#[tactic(auto, using(page::proofs::Printing::printed_then))]
+fn point_row(page: &mut Page, rail: Rail, cell: i64, glyph: u8, name: &[u8], number: i32)
+    ensures { seen page.new ≡ printed (seen page.old) (point_row rail cell glyph name.now number) }
 {
     let column = column_of(rail, cell);
     let mark = Mark {
@@ -151,88 +135,84 @@ fn point_row(
         body: glyph,
         head: glyph,
     };
-    let at = strip(out, at, rail, PLAIN, mark);
-    let at = phrases::named_whole(out, at, name, number);
-    page::byte(out, at, b'\n')
-}
-
-fn choose(condition: bool, one: u8, other: u8) -> u8
-    ensures { result ≡ cond condition one other }
-{
-    if condition { one } else { other }
+    strip(page, rail, PLAIN, mark);
+    page.named(name, number);
+    page.byte(b'\n');
 }
 
 fn leg_mark(rail: Rail, from: i64, leg: LegRun) -> Mark
     ensures { result ≡ leg_mark rail from leg }
 {
+    let forward = legs::is_forward(leg.route);
+    let fast = legs::is_fast(leg.route);
     Mark {
         from: column_of(rail, from),
         to: column_of(rail, leg.cell),
-        body: choose(legs::is_fast(leg.route), b'=', b'-'),
-        head: choose(legs::is_forward(leg.route), b'>', b'<'),
+        body: if fast { b'=' } else { b'-' },
+        head: if forward { b'>' } else { b'<' },
     }
 }
 
 // A leg's direction, speed and ticks.
-fn leg_text(out: &mut [u8], at: usize, leg: LegRun) -> usize
-    ensures { Printed out.old at (leg_text leg) out.new result }
+#[tactic(auto, using(page::proofs::Printing::printed_then))]
+fn leg_text(page: &mut Page, leg: LegRun)
+    ensures { seen page.new ≡ printed (seen page.old) (leg_text leg) }
 {
-    let at = page::byte(out, at, b' ');
-    let at = page::byte(out, at, choose(legs::is_forward(leg.route), b'+', b'-'));
-    let at = page::byte(out, at, choose(legs::is_fast(leg.route), b'F', b'S'));
-    phrases::named_decimal(out, at, b" ticks ", leg.ticks as u64)
+    let forward = legs::is_forward(leg.route);
+    let fast = legs::is_fast(leg.route);
+    page.byte(b' ');
+    page.byte(if forward { b'+' } else { b'-' });
+    page.byte(if fast { b'F' } else { b'S' });
+    page.named(b" ticks ", leg.ticks);
 }
 
-// A leg that began where the drawing has come to; one with no tick did not run, and adds nothing.
-fn leg_row(out: &mut [u8], drawn: Drawn, rail: Rail, leg: LegRun) -> Drawn
-    ensures text { Printed out.old drawn.end (leg_row rail drawn.cell leg) out.new result.end }
-    ensures cell { result.cell ≡ ended_at drawn.cell leg }
+// A leg that began at a cell, and the cell where it ended. One with no tick did not run, and has no row.
+fn leg_row(page: &mut Page, rail: Rail, from: i64, leg: LegRun) -> i64
+    ensures text { seen page.new ≡ printed (seen page.old) (leg_row rail from leg) }
+    ensures cell { result ≡ ended_at from leg }
 {
     if leg.ticks == 0 {
-        return drawn;
+        return from;
     }
-    let at = strip(out, drawn.end, rail, PLAIN, leg_mark(rail, drawn.cell, leg));
-    let at = leg_text(out, at, leg);
-    Drawn {
-        end: page::byte(out, at, b'\n'),
-        cell: leg.cell,
-    }
+    strip(page, rail, PLAIN, leg_mark(rail, from, leg));
+    leg_text(page, leg);
+    page.byte(b'\n');
+    leg.cell
 }
 
-// The legs, each from the cell where the one before ended.
-fn leg_rows(out: &mut [u8], drawn: Drawn, rail: Rail, trace: Trace) -> Drawn
-    ensures text { Printed out.old drawn.end (leg_rows rail drawn.cell (legs_of trace)) out.new result.end }
-    ensures cell { result.cell ≡ last_cell drawn.cell (legs_of trace) }
+// The legs, each from the cell where the one before ended; where the last ended.
+fn leg_rows(page: &mut Page, rail: Rail, start: i64, legs: &[LegRun]) -> i64
+    ensures text { seen page.new ≡ printed (seen page.old) (leg_rows rail start legs.now) }
+    ensures cell { result ≡ last_cell start legs.now }
 {
-    let drawn = leg_row(out, drawn, rail, trace.first);
-    let drawn = leg_row(out, drawn, rail, trace.second);
-    let drawn = leg_row(out, drawn, rail, trace.third);
-    leg_row(out, drawn, rail, trace.fourth)
+    let mut cell = start;
+    for leg in legs {
+        cell = leg_row(page, rail, cell, *leg);
+    }
+    cell
 }
 
 // The cell where the run stopped, as the position that the axis was handed there. A refused run has no such row.
-fn end_row(out: &mut [u8], at: usize, rail: Rail, cell: i64, stop: Stop) -> usize
-    ensures { Printed out.old at (end_row rail cell stop) out.new result }
+#[tactic(auto, using(page::proofs::Printing::printed_nothing))]
+fn end_row(page: &mut Page, rail: Rail, cell: i64, stop: Stop)
+    ensures { seen page.new ≡ printed (seen page.old) (end_row rail cell stop) }
 {
     let position = counts::wrap(cell);
     match stop {
-        Stop::None => at,
-        Stop::Homed => point_row(out, at, rail, cell, b'H', b" home ", position),
-        Stop::Failed => point_row(out, at, rail, cell, b'E', b" error ", position),
-        Stop::Ticks => point_row(out, at, rail, cell, b'T', b" stopped ", position),
+        Stop::None => {}
+        Stop::Homed => point_row(page, rail, cell, b'H', b" home ", position),
+        Stop::Failed => point_row(page, rail, cell, b'E', b" error ", position),
+        Stop::Ticks => point_row(page, rail, cell, b'T', b" stopped ", position),
     }
 }
 
 // The rail, and a run on it: its start, its legs and its end, a row each.
-pub fn picture(out: &mut [u8], at: usize, rail: Rail, start: i32, trace: Trace) -> usize
-    ensures { Printed out.old at (picture_text rail start trace) out.new result }
+pub fn picture(page: &mut Page, rail: Rail, start: i32, trace: Trace)
+    ensures { seen page.new ≡ printed (seen page.old) (picture_text rail start trace) }
 {
-    let cell = start as i64;
-    let at = rail_row(out, at, rail);
-    let at = point_row(out, at, rail, cell, b'S', b" start ", start);
-    let begun = Drawn { end: at, cell };
-    let ended = leg_rows(out, begun, rail, trace);
-    let outcome = trace.outcome;
-    let stop = outcome.stop;
-    end_row(out, ended.end, rail, ended.cell, stop)
+    let legs = [trace.first, trace.second, trace.third, trace.fourth];
+    rail_row(page, rail);
+    point_row(page, rail, start as i64, b'S', b" start ", start);
+    let cell = leg_rows(page, rail, start as i64, &legs);
+    end_row(page, rail, cell, trace.outcome.stop);
 }

@@ -1,26 +1,27 @@
 -- 01, "Drive state": at most one transition a tick.
 -- Assumes nothing.
-use Rattle.std.specs.Prelude.{ℕ, Bool, false, cond, not, ◌&&◌, ◌||◌, List, [], ◌∷◌, eqb}
+use Rattle.std.specs.Prelude.{ℕ, Bool, false, cond, not, ◌&&◌, ◌||◌, List, [], ◌∷◌, eqb, Option, Some, None}
 use Rattle.states.specs.declared.State.{State}
 use Rattle.states.specs.declared.State.TheVariants.{NotReady, SwitchOnDisabled, Ready, SwitchedOn, OperationEnabled, QuickStopActive, FaultReaction, Fault}
 use Rattle.control.specs.declared.ControlCommand.{ControlCommand}
-use Rattle.control.specs.declared.ControlCommand.TheVariants.{Nothing, DisableVoltage, QuickStop, Shutdown, SwitchOn, EnableOperation}
+use Rattle.control.specs.declared.ControlCommand.TheVariants.{DisableVoltage, QuickStop, Shutdown, SwitchOn, EnableOperation}
 use Rattle.states.specs.States.{is}
 use Rattle.control.specs.Control.{control_command_of, bit_rises}
 
 -- commands are told apart by number
 abbrev pub command_number : ControlCommand → ℕ
-command_number Nothing = 0
 command_number DisableVoltage = 1
 command_number QuickStop = 2
 command_number Shutdown = 3
 command_number SwitchOn = 4
 command_number EnableOperation = 5
 
-abbrev pub asks : ControlCommand → ControlCommand → Bool
-asks c d = eqb (command_number c) (command_number d)
+-- a control word asks for d: it may ask for nothing
+abbrev pub asks : Option ControlCommand → ControlCommand → Bool
+asks None d = false
+asks (Some c) d = eqb (command_number c) (command_number d)
 
-abbrev among : ControlCommand → List ControlCommand → Bool
+abbrev among : Option ControlCommand → List ControlCommand → Bool
 among c [] = false
 among c (d ∷ ds) = asks c d || among c ds
 
@@ -46,7 +47,7 @@ bullets =
     ∷ []
 
 -- the transition that a command takes from a state; "all else stays"
-abbrev pub from_state : State → ControlCommand → List Transition → State
+abbrev pub from_state : State → Option ControlCommand → List Transition → State
 from_state s c [] = s
 from_state s c (t ∷ ts) = cond (is s t.from && among c t.on) t.to (from_state s c ts)
 
@@ -56,12 +57,12 @@ standstill_of option enable =
     cond (eqb option 2) SwitchOnDisabled (cond (eqb option 6) (cond enable OperationEnabled QuickStopActive) QuickStopActive)
 
 -- the last bullet: "Quick stop active: disable voltage to Switch on disabled; else at standstill, …"
-abbrev pub quick_stop_of : ControlCommand → Bool → ℕ → State
+abbrev pub quick_stop_of : Option ControlCommand → Bool → ℕ → State
 quick_stop_of c still option =
     cond (asks c DisableVoltage) SwitchOnDisabled (cond still (standstill_of option (asks c EnableOperation)) QuickStopActive)
 
 -- what a state but the fault states goes to where there is no alarm; "Not ready (fresh) goes to Switch on disabled"
-abbrev pub quiet_of : State → ControlCommand → Bool → ℕ → State
+abbrev pub quiet_of : State → Option ControlCommand → Bool → ℕ → State
 quiet_of NotReady c still option = SwitchOnDisabled
 quiet_of SwitchOnDisabled c still option = from_state SwitchOnDisabled c bullets
 quiet_of Ready c still option = from_state Ready c bullets

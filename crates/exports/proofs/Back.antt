@@ -1,6 +1,7 @@
 -- The signed numbers of every answer fit 32 bits, so that it reads back from its words. The guards of torque caps and speeds make it so for any
 -- settings.
 -- Assumes nothing.
+use Rattle.std.specs.Prelude.{None, Option, Some, ℤ}
 use Prim.Native.Nat.{ℕ, zero, suc, ◌^◌, ◌<◌}
 use mathlib.Core.Path.{◌≡◌, refl, sym}
 use mathlib.Core.Bool.{Bool, true, false, cond, false≢true}
@@ -22,8 +23,6 @@ use Rattle.commands.specs.Commands.{whole_demand}
 use Rattle.torque.specs.declared.LimitSet.{LimitSet}
 use Rattle.torque.specs.Limits.{positive_cap, negative_cap, guarded}
 use Rattle.torque.specs.Torque.{torque_of}
-use Rattle.position.specs.declared.Followed.{Followed}
-use Rattle.position.specs.declared.Followed.TheVariants.{Target, Nothing}
 use Rattle.position.specs.Position.{count_of, position_of}
 use Rattle.ticks.specs.declared.Tick.{Tick}
 use Rattle.ticks.specs.Motion.{Motion}
@@ -64,10 +63,10 @@ torque-small s mode set true demand =
     held demand (guarded (negative_cap s mode set)) (guarded (positive_cap s mode set)) (omega arith) (omega arith)
 torque-small s mode set false demand = omega arith
 
-count_fits : (s : Settings) (home : ℤ) (f : Followed) (actual : ℤ) → fits 32 actual ≡ true → fits 32 (position_of s home f actual) ≡ true
+count_fits : (s : Settings) (home : ℤ) (f : Option ℤ) (actual : ℤ) → fits 32 actual ≡ true → fits 32 (position_of s home f actual) ≡ true
 unfolding count_of
-count_fits s home (Target target) actual e = i32-fits (wrapped-fits _)
-count_fits s home Nothing actual e = e
+count_fits s home (Some target) actual e = i32-fits (wrapped-fits _)
+count_fits s home None actual e = e
 
 mode-fits : (m : Mode) → fits 32 (mode_number m) ≡ true
 unfolding fits

@@ -1,8 +1,7 @@
 -- What a C program receives. l are the words of the axis before a call, m those after it.
 -- Assumes nothing.
 use Rattle.std.specs.Prelude.{ℕ, ◌≡◌, List, Float}
-use Rattle.settings.specs.declared.Verdict.{Verdict}
-use Rattle.settings.specs.Refusal.{verdict_number}
+use Rattle.settings.specs.Refusal.{verdict_number, Verdict}
 use Rattle.answers.specs.declared.Answer.{Answer}
 use Rattle.axis.specs.Calls as axis
 use Rattle.records.specs.Words.{tick_in, answer_words}

@@ -1,4 +1,5 @@
 // The axis and the writer for programs in C: the calls of `c/axis.h`, whose words `crates/records` reads and writes.
+// Kept: numbers for refusals, lent words and buffers, for the C interface.
 #![tactic(auto)]
 
 ghost use Rattle.std.specs.Prelude.{◌≡◌};

@@ -1,98 +1,52 @@
 -- The text of a line that has ended.
 -- Assumes nothing.
-use Prim.Native.Nat.{ℕ, suc, ◌-◌, ◌≤◌, ◌<◌}
-use mathlib.Core.Bool.{Bool, true, false, cond}
+use Prim.Native.Nat.{ℕ, suc, ◌+◌, ◌-◌, ◌≤◌, ◌<◌}
+use mathlib.Core.Bool.{Bool, true, false, cond, ◌&&◌}
 use mathlib.Core.List.{List, [], ◌∷◌}
-use mathlib.Core.Path.{◌≡◌, refl, sym, ap, ◌∙◌}
+use mathlib.Core.Path.{◌≡◌, refl, sym, ◌∙◌}
 use native.Mathlib.Omega.{arith}
-use borrow.Author.Tests.{eq-eqb, ne_eqb, ltb-true, ltb-false, le-ltb}
+use borrow.Author.Tests.{ltb-true, le-ltb}
 use lib.Dec.{eqb, ltb}
-use lib.ListN.{length, take, get_or}
-use lib.Seq.{take_all, take-take, get_or-take}
-use Rattle.gather.specs.declared.Ended.TheVariants.{Text, TooLong}
-use Rattle.gather.specs.declared.Held.{Held}
-use Rattle.gather.specs.Lines.{Holds, without_cr, fitting_of, ended_of, ended_in, InsideBuffer}
+use lib.ListN.{length, take, drop, get_or, length-take, drop_of_length-le}
+use lib.Pointwise.{pointwise}
+use lib.Seq.{drop-cons}
+use Rattle.std.specs.Prelude.{Option, Some, None, MatchOption, unwrap_or}
+use Rattle.std.specs.Borrow.{Bor}
+use Rattle.gather.specs.Lines.{without_cr, ended_of, ended_in}
 
-inside-if : (t : Bool) (n room : ℕ) → n ≤ room → InsideBuffer (cond t (Text n) TooLong) room
-inside-if true n room h = h
-inside-if false n room h = tt
+-- the last byte is a CR
+last_is : (s : List ℕ) → pointwise eqb (drop (length s - 1) s) (13 ∷ []) ≡ eqb (get_or s (length s - 1) 0) 13
+last_is [] = refl
+last_is (y ∷ ys) =
+    let h : length (y ∷ ys) - 1 < length (y ∷ ys) = omega arith in
+    let past : length (y ∷ ys) ≤ suc (length (y ∷ ys) - 1) = omega arith in
+    rw (drop-cons (y ∷ ys) (length (y ∷ ys) - 1) 0 h, drop_of_length-le (y ∷ ys) past) (go (eqb (get_or (y ∷ ys) (length (y ∷ ys) - 1) 0) 13))
+  where
+    go : (t : Bool) → t && true ≡ t
+    go true = refl
+    go false = refl
 
-pub fitting-inside : (n room : ℕ) → n ≤ room → InsideBuffer (fitting_of n) room
-fitting-inside n room h = inside-if (ltb n 256) n room h
+pub cr_stripped : (s : List ℕ) (r : Option (Bor (List ℕ))) (d : Bor (List ℕ)) → d.now ≡ s
+    → MatchOption r (pointwise eqb (drop (length s - 1) s) (13 ∷ []) ≡ false)
+    (λ x. (pointwise eqb (drop (length s - 1) s) (13 ∷ []) ≡ true) × (x.now ≡ take (length s - 1) s) × (length x.now + 1 ≡ length s))
+    → (unwrap_or r d).now ≡ without_cr s
+unfolding without_cr
+cr_stripped s None d e m = rw (sym (last_is s) ∙ m) e
+cr_stripped s (Some x) d e m = rw (sym (last_is s) ∙ m.0) m.1
 
-at_least : (t : Bool) (n : ℕ) → n ≤ suc (cond t (n - 1) n)
-at_least true n = omega arith
-at_least false n = omega arith
-
-at_most : (t : Bool) (n : ℕ) → cond t (n - 1) n ≤ n
-at_most true n = omega arith
-at_most false n = omega arith
-
--- more bytes came than there is room for
-pub over-long : (line : List ℕ) (h : Held) (bs : List ℕ) → h.over ≡ true → Holds line h bs → TooLong ≡ ended_in (length line) bs
-over-long line h bs o k = rw (sym k.over ∙ o)
-
-pub in-room : (line : List ℕ) (h : Held) (bs : List ℕ) → h.over ≡ false → Holds line h bs → ended_of bs ≡ ended_in (length line) bs
-in-room line h bs o k = rw (sym k.over ∙ o)
+-- a line has one byte more than its text at most
+at_least : (bs : List ℕ) → length bs ≤ suc (length (without_cr bs))
+unfolding without_cr
+at_least bs = go (eqb (get_or bs (length bs - 1) 0) 13)
+  where
+    go : (t : Bool) → length bs ≤ suc (length (cond t (take (length bs - 1) bs) bs))
+    go true = omega (arith, length-take (length bs - 1) bs)
+    go false = omega arith
 
 -- room for 256 bytes is room for every line: what does not fit there is too long anyway
 pub room-enough : (room : ℕ) (bs : List ℕ) → 256 ≤ room → ended_in room bs ≡ ended_of bs
-unfolding without_cr
 room-enough room bs r = go (ltb room (length bs)) refl
   where
-    go : (t : Bool) → ltb room (length bs) ≡ t → cond t TooLong (ended_of bs) ≡ ended_of bs
-    go true m =
-        let l = at_least (eqb (get_or bs (length bs - 1) 0) 13) (length bs) in
-        rw (le-ltb (without_cr bs) 256 (omega (arith, r, l, ltb-true room (length bs) m)))
+    go : (t : Bool) → ltb room (length bs) ≡ t → cond t None (ended_of bs) ≡ ended_of bs
+    go true m = rw (le-ltb (length (without_cr bs)) 256 (omega (arith, r, at_least bs, ltb-true room (length bs) m)))
     go false m = refl
-
--- as many as are held
-pub all_held : (line : List ℕ) (h : Held) (bs : List ℕ) → h.over ≡ false → Holds line h bs → h.length ≡ length bs
-all_held line h bs o k = let m = ltb-false (length line) (length bs) (sym k.over ∙ o) in let q = k.count in omega arith
-
-nothing : (bs : List ℕ) → length bs ≡ 0 → Text 0 ≡ ended_of bs
-unfolding without_cr
-nothing [] e = refl
-nothing (b ∷ bs) e = absurd (omega arith)
-
-pub none-held : (line : List ℕ) (h : Held) (bs : List ℕ) → h.over ≡ false → h.length ≡ 0 → Holds line h bs → Text 0 ≡ ended_of bs
-none-held line h bs o z k = nothing bs (sym (all_held line h bs o k) ∙ z)
-
-last-held : (line : List ℕ) (h : Held) (bs : List ℕ) → h.over ≡ false → 0 < h.length → Holds line h bs
-    → get_or line (h.length - 1) 0 ≡ get_or bs (length bs - 1) 0
-last-held line h bs o p k =
-    let m = ltb-false (length line) (length bs) (sym k.over ∙ o) in
-    let n = all_held line h bs o k in
-    sym (get_or-take h.length line (h.length - 1) 0 (omega arith))
-    ∙ ap (λ (xs : List ℕ). get_or xs (h.length - 1) 0) (k.bytes ∙ take_all (length line) bs m)
-    ∙ ap (λ (i : ℕ). get_or bs (i - 1) 0) n
-
-pub cr-last : (line : List ℕ) (h : Held) (bs : List ℕ) → h.over ≡ false → 0 < h.length → get_or line (h.length - 1) 0 ≡ 13 → Holds line h bs
-    → fitting_of (h.length - 1) ≡ ended_of bs
-unfolding without_cr
-cr-last line h bs o p e k =
-    rw (eq-eqb (get_or bs (length bs - 1) 0) 13 (sym (last-held line h bs o p k) ∙ e))
-    (ap (λ (n : ℕ). fitting_of (n - 1)) (all_held line h bs o k))
-
-pub no-cr : (line : List ℕ) (h : Held) (bs : List ℕ) → h.over ≡ false → 0 < h.length → (get_or line (h.length - 1) 0 ≡ 13 → ⊥) → Holds line h bs
-    → fitting_of h.length ≡ ended_of bs
-unfolding without_cr
-no-cr line h bs o p e k =
-    rw (ne_eqb (get_or bs (length bs - 1) 0) 13 (λ q. e (last-held line h bs o p k ∙ q))) (ap fitting_of (all_held line h bs o k))
-
--- a text that fits is held, byte by byte
-pub text-held : (line : List ℕ) (h : Held) (bs : List ℕ) (n : ℕ) → 256 ≤ length line → Holds line h bs → ended_of bs ≡ Text n
-    → take n line ≡ take n bs
-unfolding without_cr
-text-held line h bs n r k e = go (ltb (without_cr bs) 256) refl e
-  where
-    go : (t : Bool) → ltb (without_cr bs) 256 ≡ t → cond t (Text (without_cr bs)) TooLong ≡ Text n → take n line ≡ take n bs
-    go true f q =
-        let m : without_cr bs ≡ n = cc in
-        let b = ltb-true (without_cr bs) 256 f in
-        let l = at_most (eqb (get_or bs (length bs - 1) 0) 13) (length bs) in
-        let c = k.count in
-        sym (take-take n h.length line (omega (arith, m, b, l, c)))
-        ∙ ap (take n) k.bytes
-        ∙ take-take n (length line) bs (omega (arith, m, b))
-    go false f q = let z : ◌≡◌ {A = ℕ} 0 1 = cc in absurd (omega arith)

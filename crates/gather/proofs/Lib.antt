@@ -1,3 +1,2 @@
-pub mod Keeping
 pub mod Parts
 pub mod Ends

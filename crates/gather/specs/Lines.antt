@@ -1,46 +1,47 @@
 -- A line's bytes as they come, whatever the reads cut them into. docs/LINES.md: "What is left, blanks and comment included, is at most 255 bytes."
 -- Assumes nothing.
-use Rattle.std.specs.Prelude.{ℕ, ◌+◌, ◌-◌, ◌≤◌, min, Bool, cond, List, ◌≡◌, eqb, ltb, length, take, drop, get_or}
+use Rattle.std.specs.Prelude.{ℕ, ◌+◌, ◌-◌, ◌≤◌, Bool, cond, List, ◌≡◌, eqb, ltb, length, take, drop, get_or, Option, Some, None}
 use Rattle.scan.specs.Bytes.{index_of}
-use Rattle.gather.specs.declared.Ended.{Ended}
-use Rattle.gather.specs.declared.Ended.TheVariants.{Text, TooLong}
 use Rattle.gather.specs.declared.Held.{Held}
 
 -- of a line, the bytes bs have come: a buffer holds as many of them as it has room for
-pub record Holds (line : List ℕ) (h : Held) (bs : List ℕ) : Type 0 where
-  pub count : h.length ≡ min (length bs) (length line)
-  pub over : h.over ≡ ltb (length line) (length bs)
-  pub bytes : take h.length line ≡ take (length line) bs
+pub record Holds {room : ℕ} (h : Held room) (bs : List ℕ) : Type 0 where
+  pub count : h.length ≡ cond (ltb (length h.bytes) (length bs)) None (Some (length bs))
+  pub bytes : take (length bs) h.bytes ≡ take (length h.bytes) bs
 
--- what a chunk adds to the line from a place on: the bytes up to the next LF
-abbrev pub part_of : List ℕ → ℕ → List ℕ
-part_of chunk from = take (index_of 10 (drop from chunk)) (drop from chunk)
+-- what a chunk adds to the line: the bytes up to the next LF
+abbrev pub part_of : List ℕ → List ℕ
+part_of chunk = take (index_of 10 chunk) chunk
 
 -- there is an LF
-abbrev pub ends_in : List ℕ → ℕ → Bool
-ends_in chunk from = ltb (index_of 10 (drop from chunk)) (length (drop from chunk))
+abbrev pub ends_in : List ℕ → Bool
+ends_in chunk = ltb (index_of 10 chunk) (length chunk)
 
 -- where the rest begins: past the LF, or past the chunk where there is none
-abbrev pub past_line : List ℕ → ℕ → ℕ
-past_line chunk from = from + index_of 10 (drop from chunk) + cond (ends_in chunk from) 1 0
+abbrev pub past_line : List ℕ → ℕ
+past_line chunk = index_of 10 chunk + cond (ends_in chunk) 1 0
+
+-- the rest, where there is an LF
+abbrev pub rest_of : List ℕ → Option (List ℕ)
+rest_of chunk = cond (ends_in chunk) (Some (drop (past_line chunk) chunk)) None
 
 -- "a CR right before that end is no part of it"
-unfoldable pub without_cr : List ℕ → ℕ
-without_cr bs = cond (eqb (get_or bs (length bs - 1) 0) 13) (length bs - 1) (length bs)
+unfoldable pub without_cr : List ℕ → List ℕ
+without_cr bs = cond (eqb (get_or bs (length bs - 1) 0) 13) (take (length bs - 1) bs) bs
 
--- the length of a line's text, or that it is too long
-abbrev pub fitting_of : ℕ → Ended
-fitting_of n = cond (ltb n 256) (Text n) TooLong
+-- a line's text, or that it is too long
+abbrev pub fitting_of : List ℕ → Option (List ℕ)
+fitting_of text = cond (ltb (length text) 256) (Some text) None
 
-abbrev pub ended_of : List ℕ → Ended
+abbrev pub ended_of : List ℕ → Option (List ℕ)
 ended_of bs = fitting_of (without_cr bs)
 
 -- in a buffer with room for so many bytes: a line that does not fit there, a CR at its end included, is too long as well. With room for 256
 -- that is no line but those that are too long anyway (`room-enough`).
-abbrev pub ended_in : ℕ → List ℕ → Ended
-ended_in room bs = cond (ltb room (length bs)) TooLong (ended_of bs)
+abbrev pub ended_in : ℕ → List ℕ → Option (List ℕ)
+ended_in room bs = cond (ltb room (length bs)) None (ended_of bs)
 
 -- a text lies in its buffer
-abbrev pub InsideBuffer : Ended → ℕ → Type 0
-InsideBuffer (Text n) room = n ≤ room
-InsideBuffer TooLong room = Unit {0}
+abbrev pub InsideBuffer : Option (List ℕ) → ℕ → Type 0
+InsideBuffer (Some text) room = length text ≤ room
+InsideBuffer None room = Unit {0}

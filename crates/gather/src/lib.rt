@@ -1,107 +1,78 @@
 // A line's bytes as they come, whatever the reads cut them into.
 #![tactic(auto)]
 
-ghost use Rattle.std.specs.Prelude.{List, ◌∷◌, [], ◌++◌, ℕ, ◌<◌, ◌≡◌, length};
-ghost use Rattle.gather.specs.Lines.{Holds, part_of, ends_in, past_line, fitting_of, ended_in, InsideBuffer};
+ghost use Rattle.std.specs.Prelude.{List, ◌∷◌, [], ◌++◌, ℕ, ◌<◌, ◌≤◌, ◌≡◌, length, IfSome, option_copied};
+ghost use Rattle.gather.specs.Lines.{Holds, part_of, rest_of, without_cr, ended_in, InsideBuffer};
 
-// How many bytes of a line are held, and whether there were more than there is room for.
+// A line that has not ended.
+// Kept: a buffer with a length beside it, since the project takes no heap, and so no Vec.
 #[derive(Clone, Copy)]
-pub struct Held {
-    pub length: usize,
-    pub over: bool,
+pub struct Held<const ROOM: usize> {
+    // Its first bytes, as many as there is room for.
+    pub bytes: [u8; ROOM],
+    // How many bytes have come; none where there were more than there is room for.
+    pub length: Option<usize>,
 }
 
-#[derive(Clone, Copy)]
-pub struct Gathered {
-    // One past the last byte that was taken.
-    pub next: usize,
-    pub held: Held,
-    // Whether the line has ended.
-    pub ended: bool,
-}
-
-// A line that has ended, without a CR right before its end: its length, or that it is too long.
-#[derive(Clone, Copy)]
-pub enum Ended {
-    Text(usize),
-    TooLong,
-}
-
-fn keep(line: &mut [u8], held: Held, byte: u8) -> Held
-    ensures line_len_unchanged { length line.new ≡ length line.old }
-    ensures by_index { (bs : List ℕ) → Holds line.old held bs → Holds line.new result (bs ++ (byte ∷ [])) }
+fn without_cr(line: &[u8]) -> &[u8]
+    ensures value { result.now ≡ without_cr line.now }
+    ensures no_longer { length result.now ≤ length line.now }
 {
-    let at = held.length;
-    if at < line.len() {
-        line[at] = byte;
+    line.strip_suffix(b"\r").unwrap_or(line)
+}
+
+impl<const ROOM: usize> Held<ROOM> {
+    // A line of which nothing has come.
+    pub fn new() -> Held<ROOM>
+        ensures { Holds result [] }
+    {
         Held {
-            length: at + 1,
-            over: held.over,
-        }
-    } else {
-        Held {
-            length: at,
-            over: true,
+            bytes: [0; ROOM],
+            length: Some(0),
         }
     }
-}
 
-// Takes the chunk's bytes from `from` on, up to the line's end and with it.
-pub fn take(chunk: &[u8], from: usize, line: &mut [u8], held: Held) -> Gathered
-    ensures line_len_unchanged { length line.new ≡ length line.old }
-    ensures from_lt_next { from < length chunk.now → from < result.next }
-    ensures next_value { result.next ≡ past_line chunk.now from }
-    ensures ended_value { result.ended ≡ ends_in chunk.now from }
-    ensures by_index { (bs : List ℕ) → Holds line.old held bs → Holds line.new result.held (bs ++ part_of chunk.now from) }
-{
-    let mut kept = held;
-    let mut i = from;
-    while i < chunk.len() {
-        let byte = chunk[i];
-        i += 1;
-        if byte == b'\n' {
-            return Gathered {
-                next: i,
-                held: kept,
-                ended: true,
-            };
+    // The line has ended, and nothing of the next has come.
+    pub fn clear(&mut self)
+        ensures { Holds self.new [] }
+    {
+        self.length = Some(0);
+    }
+
+    fn push(&mut self, byte: u8)
+        ensures { (bs : List ℕ) → Holds self.old bs → Holds self.new (bs ++ (byte ∷ [])) }
+    {
+        self.length = match self.length {
+            Some(at) if at < ROOM => {
+                self.bytes[at] = byte;
+                Some(at + 1)
+            }
+            _ => None,
+        };
+    }
+
+    // Takes a chunk up to the line's end and with it: what follows that end, or none where the line goes on past the chunk.
+    pub fn take<'a>(&mut self, chunk: &'a [u8]) -> Option<&'a [u8]>
+        ensures rest { option_copied result ≡ rest_of chunk.now }
+        ensures shorter { IfSome result (λ rest. length rest.now < length chunk.now) }
+        ensures holds { (bs : List ℕ) → Holds self.old bs → Holds self.new (bs ++ part_of chunk.now) }
+    {
+        for (i, byte) in chunk.iter().enumerate() {
+            if *byte == b'\n' {
+                return Some(&chunk[i + 1..]);
+            }
+            self.push(*byte);
         }
-        kept = keep(line, kept, byte);
+        None
     }
-    Gathered {
-        next: i,
-        held: kept,
-        ended: false,
-    }
-}
 
-fn fitting(length: usize) -> Ended
-    ensures { result ≡ fitting_of length }
-{
-    if length < 256 {
-        Ended::Text(length)
-    } else {
-        Ended::TooLong
+    // The text of a line that has ended, without a CR right before its end; none where it is too long.
+    pub fn text(&self) -> Option<&[u8]>
+        ensures inside_buffer { InsideBuffer (option_copied result) ROOM }
+        ensures by_bytes { (bs : List ℕ) → Holds self.now bs → option_copied result ≡ ended_in ROOM bs }
+    {
+        let held = self.bytes.get(..self.length?)?;
+        let text = without_cr(held);
+        if text.len() < 256 { Some(text) } else { None }
     }
-}
-
-pub fn end(line: &[u8], held: Held) -> Ended
-    ensures inside_buffer { InsideBuffer result (length line.now) }
-    ensures by_index { (bs : List ℕ) → Holds line.now held bs → result ≡ ended_in (length line.now) bs }
-{
-    let n = held.length;
-    if held.over {
-        return Ended::TooLong;
-    }
-    if line.len() < n {
-        return Ended::TooLong;
-    }
-    if n == 0 {
-        return Ended::Text(0);
-    }
-    let last = n - 1;
-    if line[last] == b'\r' {
-        return fitting(last);
-    }
-    fitting(n)
 }

@@ -1,5 +1,6 @@
 -- The narrow gear answers as 02 (iii) says, and its count is the wide gear's: both divide one product.
 -- Assumes nothing.
+use Rattle.std.specs.Prelude.{None, Some}
 use mathlib.Core.Path.{◌≡◌, refl}
 use mathlib.Core.Bool.{Bool, true, false, cond, ◌&&◌}
 use lib.IntN.{ℤ, pos, ◌*ℤ◌}
@@ -7,14 +8,13 @@ use Rattle.settings.specs.declared.Settings.{Settings}
 use Rattle.gears.specs.Gear.{within_limits, capped_numerator, geared_of}
 use Rattle.counts.specs.Fits.{fits}
 use Rattle.gears.specs.Narrow.{units_of, narrowed, narrow_of, count_by, NarrowAnswers, SameCount}
-use Rattle.gears.specs.declared.narrow.Narrow.TheVariants.{TooWide, Count}
 use Rattle.gears.proofs.Guards.{numerator-kept, denominator-kept}
 
 pub narrow-answers : NarrowAnswers
 unfolding narrow_of narrowed
 narrow-answers s e target = rw (numerator-kept s e, denominator-kept s e)
 
-chosen : (s : Settings) (target : ℤ) (t : Bool) → count_by s target (cond t (Count (geared_of s (within_limits s target))) TooWide) ≡ geared_of s (within_limits s target)
+chosen : (s : Settings) (target : ℤ) (t : Bool) → count_by s target (cond t (Some (geared_of s (within_limits s target))) None) ≡ geared_of s (within_limits s target)
 chosen s target true = refl
 chosen s target false = refl
 

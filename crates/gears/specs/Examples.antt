@@ -1,11 +1,10 @@
 -- The edges of the narrow gear, as tables that the checker evaluates: each row a target and what the narrow gear answers. What the axis makes of
 -- such targets stands in demands/specs/Examples.antt.
 -- Assumes nothing.
-use Rattle.std.specs.Prelude.{ℕ, ◌-◌, ◌^◌, List, [], ◌∷◌, map, ℤ, pos}
+use Rattle.std.specs.Prelude.{ℕ, ◌-◌, ◌^◌, List, [], ◌∷◌, map, ℤ, pos, Option}
 use Rattle.counts.specs.Tests.{minus}
 use Rattle.settings.specs.declared.Settings.{Settings}
 use Rattle.gears.specs.Narrow.{narrow_of}
-use Rattle.gears.specs.declared.narrow.Narrow.{Narrow}
 
 -- a gear, an offset and position limits; the other settings have no part in it
 abbrev pub sheet : ℕ → ℕ → ℤ → ℤ → ℤ → Settings
@@ -33,7 +32,7 @@ sheet n d from low high =
 abbrev pub unlimited : ℕ → ℕ → ℤ → Settings
 unlimited n d from = sheet n d from (minus (2 ^ 31)) (pos (2 ^ 31 - 1))
 
-abbrev pub answers : Settings → List ℤ → List Narrow
+abbrev pub answers : Settings → List ℤ → List (Option ℤ)
 answers s targets = map (narrow_of s) targets
 
 -- products 2^31 − 1 and −2^31 fit, 2^31 and −2^31 − 1 do not: numerators and targets

@@ -18,27 +18,39 @@ pub fn within_limits(s: Settings, target: i32) -> i32
     counts::clamp(target, s.lower, s.upper)
 }
 
+// A gear's denominator, as what products are divided by.
+//
+// Here and in `narrow.rt` `min` and `max` are called by their paths, fields stand in place of methods, and a sign is turned by hand: `.ci/narrow`,
+// which looks that the narrow gear has no number wider than 32 bits, reads no method.
+#[derive(Clone, Copy)]
+struct Denominator {
+    value: u32,
+    ghost in_range: { (0 < value) × (value ≤ 2 ^ 20) },
+}
+
 // A gear's numerator and its denominator are at most 2^20.
 fn capped(term: u32) -> u32
     ensures { result ≡ min term (2 ^ 20) }
 {
-    if term < 0x100000 { term } else { 0x100000 }
+    std::cmp::min(term, 0x100000)
 }
 
 // And its denominator is at least 1: capped first, so that the compiler sees that no division is by 0.
-fn divisor(denominator: u32) -> u32
-    ensures { result ≡ divisor_of denominator }
+fn divisor(denominator: u32) -> Denominator
+    ensures { result.value ≡ divisor_of denominator }
 {
-    let term = capped(denominator);
-    if term == 0 { 1 } else { term }
+    Denominator {
+        value: std::cmp::max(capped(denominator), 1),
+    }
 }
 
 // p over d, modulo 2^32: long division in 32 bits, of all but the low 24 bits first, then of twelve bits at a time. What is left over from the digits
 // above is below d, so that it and the next digit fit. The module divides by software, where three short divisions cost far less than a long one.
-fn quotient(p: u64, d: u32) -> u32
-    requires { (p < 2 ^ 56) × (0 < d) × (d ≤ 2 ^ 20) }
-    ensures { result ≡ p / d % 2 ^ 32 }
+fn quotient(p: u64, d: Denominator) -> u32
+    requires { p < 2 ^ 56 }
+    ensures { result ≡ p / d.value % 2 ^ 32 }
 {
+    let d = d.value;
     let top = (p >> 24) as u32;
     let mid = (top % d) * 0x1000 + ((p >> 12) % 0x1000) as u32;
     let low = (mid % d) * 0x1000 + (p % 0x1000) as u32;
@@ -46,14 +58,14 @@ fn quotient(p: u64, d: u32) -> u32
 }
 
 // x over d, rounded towards minus infinity, modulo 2^32 and read as signed.
-fn floored(x: i64, d: u32) -> i32
-    requires { (mag x < 2 ^ 56) × (0 < d) × (d ≤ 2 ^ 20) }
-    ensures { result ≡ wrapped (floor_div x d) }
+fn floored(x: i64, d: Denominator) -> i32
+    requires { mag x < 2 ^ 56 }
+    ensures { result ≡ wrapped (floor_div x d.value) }
 {
     if x >= 0 {
-        counts::wrap(quotient(x as u64, d) as i64)
+        quotient(x as u64, d).cast_signed()
     } else {
-        -1 - counts::wrap(quotient((-1 - x) as u64, d) as i64)
+        -1 - quotient((-1 - x) as u64, d).cast_signed()
     }
 }
 
@@ -71,7 +83,8 @@ fn within_reach(s: Settings, position: i32) -> bool
     ensures { result ≡ within_reach s position }
 {
     let product = (position as i64 - s.offset as i64) * capped(s.numerator) as i64;
-    let d = divisor(s.denominator) as i64;
+    let d = divisor(s.denominator).value as i64;
+    // Kept: `contains` on a range of two products is no plainer than the two comparisons that the comment above speaks of.
     (-0x40000000 * d <= product) & (product < 0x40000001 * d)
 }
 

@@ -7,15 +7,8 @@ ghost use Rattle.gears.specs.Narrow.{biased_of, held_product, narrowed, narrow_o
 
 use settings::Settings;
 
-#[derive(Clone, Copy)]
-pub enum Narrow {
-    // The difference from the offset, or its product, does not fit 32 bits signed.
-    TooWide,
-    // The geared count, without home.
-    Count(i32),
-}
-
 // 2^31 more. Of two numbers raised like this the difference is that of the two, whatever their signs. This compiles to one bit turned.
+// Kept: `cast_unsigned` is a method, which `.ci/narrow` does not read.
 fn biased(x: i32) -> u32
     ensures { result ≡ biased_of x }
 {
@@ -55,6 +48,7 @@ fn product(a: u32, b: u32) -> u32
 }
 
 // 2^32 over d, rounded down, for d up to 32; for 1, as near as a word comes. A lower one would give the same quotients, later.
+// Kept as a `match`: an array has an index, which is wider than 32 bits (`.ci/narrow`).
 fn reciprocal(d: u32) -> u32
     ensures { result * d ≤ 2 ^ 32 }
 {
@@ -96,33 +90,35 @@ fn reciprocal(d: u32) -> u32
 }
 
 // About p over d, by the halves of p and of the reciprocal: never more, and for d up to 32 at most 3 less.
-fn estimate(p: u32, d: u32) -> u32
-    requires { 0 < d }
-    ensures { result * d ≤ p }
+fn estimate(p: u32, d: crate::Denominator) -> u32
+    ensures { result * d.value ≤ p }
 {
-    let r = reciprocal(d);
+    let r = reciprocal(d.value);
     let high = p / 0x10000;
     high * (r / 0x10000) + high * (r % 0x10000) / 0x10000 + p % 0x10000 * (r / 0x10000) / 0x10000
 }
 
 // p over d. The module's routine takes some seven instructions for each bit of the quotient: so p is multiplied by a small d's
 // reciprocal, and only what that leaves is divided, if anything.
-fn over(p: u32, d: u32) -> u32
-    requires { 0 < d }
-    ensures { result ≡ p / d }
+//
+// Without the hint it is called, and tests again that d is not 0.
+#[inline]
+fn over(p: u32, divisor: crate::Denominator) -> u32
+    ensures { result ≡ p / divisor.value }
 {
+    let d = divisor.value;
     if d > 32 {
         return p / d;
     }
-    let q = estimate(p, d);
+    let q = estimate(p, divisor);
     let left = p - q * d;
     if left < d { q } else { q + left / d }
 }
 
 // −p over d, rounded towards minus infinity.
-fn floored_below(p: u32, d: u32) -> i32
-    requires { (p ≤ 2 ^ 31) × (0 < d) }
-    ensures { result ≡ floor_div (neg_ℤ (pos p)) d }
+fn floored_below(p: u32, d: crate::Denominator) -> i32
+    requires { p ≤ 2 ^ 31 }
+    ensures { result ≡ floor_div (neg_ℤ (pos p)) d.value }
 {
     if p == 0 {
         0
@@ -132,35 +128,35 @@ fn floored_below(p: u32, d: u32) -> i32
 }
 
 // So many units above the offset, as a count.
-fn above(units: u32, numerator: u32, denominator: u32) -> Narrow
+fn above(units: u32, numerator: u32, denominator: u32) -> Option<i32>
     ensures { result ≡ narrowed (pos units) numerator (divisor_of denominator) }
 {
     if units > 0x7FFFFFFF {
-        return Narrow::TooWide;
+        return None;
     }
     let p = product(units, numerator);
     if p > 0x7FFFFFFF {
-        return Narrow::TooWide;
+        return None;
     }
-    Narrow::Count(over(p, crate::divisor(denominator)) as i32)
+    Some(over(p, crate::divisor(denominator)) as i32)
 }
 
 // So many units below the offset, as a count.
-fn below(units: u32, numerator: u32, denominator: u32) -> Narrow
+fn below(units: u32, numerator: u32, denominator: u32) -> Option<i32>
     ensures { result ≡ narrowed (neg_ℤ (pos units)) numerator (divisor_of denominator) }
 {
     if units > 0x80000000 {
-        return Narrow::TooWide;
+        return None;
     }
     let p = product(units, numerator);
     if p > 0x80000000 {
-        return Narrow::TooWide;
+        return None;
     }
-    Narrow::Count(floored_below(p, crate::divisor(denominator)))
+    Some(floored_below(p, crate::divisor(denominator)))
 }
 
 // A target within the position limits as a count from home, or too wide.
-pub fn geared(s: Settings, target: i32) -> Narrow
+pub fn geared(s: Settings, target: i32) -> Option<i32>
     ensures { result ≡ narrow_of s target }
 {
     let near = biased(crate::within_limits(s, target));

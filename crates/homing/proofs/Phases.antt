@@ -24,9 +24,9 @@ module _ (n : ℕ) where
   at_top : ltb n (2 ^ 31) ≡ true → eqb n (2 ^ 31) ≡ false
   at_top e = let h = ltb-true n (2 ^ 31) e in ne_eqb n (2 ^ 31) (λ p. omega arith)
 
-  pub running-test : not (eqb n 0) && ltb n (2 ^ 31) ≡ running_in (phase_of n)
+  pub running_test : not (eqb n 0) && ltb n (2 ^ 31) ≡ running_in (phase_of n)
   unfolding phase_of
-  running-test = go (eqb n 0) (ltb n (2 ^ 31)) (eqb n (2 ^ 31))
+  running_test = go (eqb n 0) (ltb n (2 ^ 31)) (eqb n (2 ^ 31))
     where
       go : (zero below top : Bool) → not zero && below ≡ running_in (by zero below top)
       go true below top = refl
@@ -34,9 +34,9 @@ module _ (n : ℕ) where
       go false false true = refl
       go false false false = refl
 
-  pub homed-test : eqb n (2 ^ 31) ≡ homed_in (phase_of n)
+  pub homed_test : eqb n (2 ^ 31) ≡ homed_in (phase_of n)
   unfolding phase_of
-  homed-test = go (eqb n 0) (ltb n (2 ^ 31)) (eqb n (2 ^ 31)) (λ e. (at_zero e).1) at_top
+  homed_test = go (eqb n 0) (ltb n (2 ^ 31)) (eqb n (2 ^ 31)) (λ e. (at_zero e).1) at_top
     where
       go : (zero below top : Bool) → (zero ≡ true → top ≡ false) → (below ≡ true → top ≡ false) → top ≡ homed_in (by zero below top)
       go true below top f g = f refl
@@ -44,9 +44,9 @@ module _ (n : ℕ) where
       go false false true f g = refl
       go false false false f g = refl
 
-  pub failed-test : ltb (2 ^ 31) n ≡ failed_in (phase_of n)
+  pub failed_test : ltb (2 ^ 31) n ≡ failed_in (phase_of n)
   unfolding phase_of
-  failed-test = go (eqb n 0) refl (ltb n (2 ^ 31)) refl (eqb n (2 ^ 31)) refl
+  failed_test = go (eqb n 0) refl (ltb n (2 ^ 31)) refl (eqb n (2 ^ 31)) refl
     where
       go : (zero : Bool) → eqb n 0 ≡ zero → (below : Bool) → ltb n (2 ^ 31) ≡ below → (top : Bool) → eqb n (2 ^ 31) ≡ top
           → ltb (2 ^ 31) n ≡ failed_in (by zero below top)

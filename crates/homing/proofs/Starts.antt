@@ -27,9 +27,9 @@ unfolding row_of main_route skip_route
 legs-there m r e true = found-same (λ n x. eqb (skip_route n) 0 && not (eqb n 35)) (λ n x. false) m r table refl e
 legs-there m r e false = found-same (λ n x. eqb (main_route n) 0 && not (eqb n 35)) (λ n x. false) m r table refl e
 
-pub start-tests : (m : ℕ) (s : Switches) → start_of m s ≡ cond (eqb (start_route m s) 0 && not (eqb m 35)) Idle (entered (start_route m s))
+pub start_tests : (m : ℕ) (s : Switches) → start_of m s ≡ cond (eqb (start_route m s) 0 && not (eqb m 35)) Idle (entered (start_route m s))
 unfolding start_of start_route skips main_route
-start-tests m s = go (row_of m) refl
+start_tests m s = go (row_of m) refl
   where
     go : (o : Option Row) → row_of m ≡ o
         → start_in m s o ≡ cond (eqb (start_route m s) 0 && not (eqb m 35)) Idle (entered (start_route m s))

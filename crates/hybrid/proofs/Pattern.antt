@@ -69,20 +69,20 @@ module _ (s : Bool) where
 
 -- the same of a pattern
 module _ (b : ℕ) (f : finite (of_bits binary32 b) ≡ true) where
-  pub bits-low : b % 2 ^ 31 / 2 ^ 23 < 127 → 0 ≡ min (size_of (of_bits binary32 b)) (2 ^ 31)
+  pub bits_low : b % 2 ^ 31 / 2 ^ 23 < 127 → 0 ≡ min (size_of (of_bits binary32 b)) (2 ^ 31)
   unfolding of_bits
-  bits-low h = rw (size_low (leb (2 ^ 31) b) (b % 2 ^ 31 / 2 ^ 23) (b % 2 ^ 23) (omega arith) h f)
+  bits_low h = rw (size_low (leb (2 ^ 31) b) (b % 2 ^ 31 / 2 ^ 23) (b % 2 ^ 23) (omega arith) h f)
 
-  pub bits-middle : 127 ≤ b % 2 ^ 31 / 2 ^ 23 → b % 2 ^ 31 / 2 ^ 23 < 158
+  pub bits_middle : 127 ≤ b % 2 ^ 31 / 2 ^ 23 → b % 2 ^ 31 / 2 ^ 23 < 158
       → (b % 2 ^ 23 + 2 ^ 23) * 128 / 2 ^ (157 - b % 2 ^ 31 / 2 ^ 23) ≡ min (size_of (of_bits binary32 b)) (2 ^ 31)
   unfolding of_bits
-  bits-middle h k =
+  bits_middle h k =
       rw (size-middle (leb (2 ^ 31) b) (b % 2 ^ 31 / 2 ^ 23) (b % 2 ^ 23) h k f)
       (omega (arith, div-le_self ((b % 2 ^ 23 + 2 ^ 23) * 128) (2 ^ (157 - b % 2 ^ 31 / 2 ^ 23))))
 
-  pub bits-high : 158 ≤ b % 2 ^ 31 / 2 ^ 23 → 2 ^ 31 ≡ min (size_of (of_bits binary32 b)) (2 ^ 31)
+  pub bits_high : 158 ≤ b % 2 ^ 31 / 2 ^ 23 → 2 ^ 31 ≡ min (size_of (of_bits binary32 b)) (2 ^ 31)
   unfolding of_bits
-  bits-high h = omega (arith, size-high (leb (2 ^ 31) b) (b % 2 ^ 31 / 2 ^ 23) (b % 2 ^ 23) h f)
+  bits_high h = omega (arith, size-high (leb (2 ^ 31) b) (b % 2 ^ 31 / 2 ^ 23) (b % 2 ^ 23) h f)
 
   pub bits-sign : negative (of_bits binary32 b) ≡ leb (2 ^ 31) b
   unfolding of_bits

@@ -39,14 +39,14 @@ module _ (low high : ℤ) (l : SFits w32 low) (h : SFits w32 high) where
   unfolding clamped
   at-bottom n k = rw (not_below high n (omega (arith, h.sfits))) (lower low n (omega (arith, l.sfits)))
 
-  pub clamp-saturated : (z : ℤ) → clamped (saturated z) low high ≡ clamped z low high
+  pub clamp_saturated : (z : ℤ) → clamped (saturated z) low high ≡ clamped z low high
   unfolding saturated clamped
-  clamp-saturated (pos n) = go (ltb (2 ^ 31 - 1) n) refl
+  clamp_saturated (pos n) = go (ltb (2 ^ 31 - 1) n) refl
     where
       go : (t : Bool) → ltb (2 ^ 31 - 1) n ≡ t → clamped (cond t (pos (2 ^ 31 - 1)) (pos n)) low high ≡ clamped (pos n) low high
       go true e = at_top (2 ^ 31 - 1) (omega arith) ∙ sym (at_top n (omega (arith, ltb-true (2 ^ 31 - 1) n e)))
       go false e = refl
-  clamp-saturated (negsuc n) = go (ltb (2 ^ 31 - 1) n) refl
+  clamp_saturated (negsuc n) = go (ltb (2 ^ 31 - 1) n) refl
     where
       go : (t : Bool) → ltb (2 ^ 31 - 1) n ≡ t → clamped (cond t (negsuc (2 ^ 31 - 1)) (negsuc n)) low high ≡ clamped (negsuc n) low high
       go true e = at-bottom (2 ^ 31 - 1) (omega arith) ∙ sym (at-bottom n (omega (arith, ltb-true (2 ^ 31 - 1) n e)))

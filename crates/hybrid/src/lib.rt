@@ -25,6 +25,7 @@ pub struct Hybrid {
 }
 
 // The demand before it is made whole (01: q), in thousandths of the rated torque, which is in millinewton metres.
+#[tactic(auto, using(crate::proofs::Floats::million), unfolding(crate::specs::Hybrid::quotient_of))]
 pub fn quotient(h: Hybrid, rated: u32) -> f32
     ensures { result ≡ quotient_of h rated }
 {
@@ -32,15 +33,16 @@ pub fn quotient(h: Hybrid, rated: u32) -> f32
     ((h.kp * (h.pd - h.p) + h.kd * (h.vd - h.v)) + h.t) * 1000000.0 / divisor
 }
 
-// Whether q is neither a NaN nor an infinity.
+// Whether q is neither a NaN nor an infinity. The library has no such test for an f32.
 pub fn is_finite(q: f32) -> bool
     ensures { result ≡ finite q }
 {
     let limit = f32::from_bits(0x7f80_0000);
-    if q < limit { -limit < q } else { false }
+    q < limit && -limit < q
 }
 
 // The whole part of a finite float's size, at most 2^31: its digits, shifted by its exponent. Below 1 it is 0.
+#[tactic(auto, using(crate::proofs::Pattern::bits_low, crate::proofs::Pattern::bits_middle, crate::proofs::Pattern::bits_high))]
 fn size(bits: u32) -> u32
     requires { finite (from_bits binary32 bits) ≡ true }
     ensures { result ≡ min (size_of (from_bits binary32 bits)) (2 ^ 31) }
@@ -48,9 +50,8 @@ fn size(bits: u32) -> u32
     let exponent = bits % 0x80000000 / 0x800000;
     let digits = bits % 0x800000 + 0x800000;
     if exponent < 127 {
-        return 0;
-    }
-    if exponent < 158 {
+        0
+    } else if exponent < 158 {
         (digits * 128) >> (157 - exponent)
     } else {
         0x80000000
@@ -63,17 +64,19 @@ fn signed(negative: bool, n: u32) -> i32
     ensures { result ≡ (if negative then neg_ℤ (pos n) else pos (min n (2 ^ 31 - 1))) }
 {
     if negative {
-        return (-(n as i64)) as i32;
+        (-(n as i64)) as i32
+    } else {
+        n.min(0x7FFFFFFF) as i32
     }
-    if n < 0x80000000 { n as i32 } else { 0x7FFFFFFF }
 }
 
 // q's whole part, and the nearer end of the i32 range where it is beyond it.
+// Kept: tried for a Cortex-M0, the library's saturating cast is three calls of float routines; this is none, but for the test.
 fn whole(q: f32) -> i32
     ensures { result ≡ saturated (whole_part q) }
 {
     if is_finite(q) {
-        let bits = f32::to_bits(q);
+        let bits = q.to_bits();
         signed(bits >= 0x80000000, size(bits))
     } else {
         0

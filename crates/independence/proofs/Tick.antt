@@ -1,6 +1,7 @@
 -- One tick, and ticks alone. Units and home come into an answer through a followed target alone, as position and bit 11, and no command but position
 -- has one. So the argument is computed: with other units and another home a tick is answered the same but for these, and leaves the same but for home.
 -- Assumes nothing.
+use Rattle.std.specs.Prelude.{None}
 use Prim.Native.Nat.{ℕ, ◌-◌, ◌^◌}
 use mathlib.Core.Path.{◌≡◌, refl, sym, ◌∙◌, subst}
 use mathlib.Core.Bool.{Bool, true, false, false≢true}
@@ -15,7 +16,6 @@ use Rattle.legs.specs.Legs.{Leg}
 use Rattle.homing.specs.Moving.{moving_leg}
 use Rattle.homing.specs.Phase.{Phase, Idle, Running, Homed, Failed, homed_in, failed_in}
 use Rattle.states.specs.declared.State.{State}
-use Rattle.position.specs.declared.Followed.TheVariants.{Nothing}
 use Rattle.modes.specs.declared.Mode.{Mode}
 use Rattle.modes.specs.declared.Mode.TheVariants as mode
 use Rattle.modes.specs.Modes.{is_mode}
@@ -91,7 +91,7 @@ equal-but-home a b h =
 
 -- ---- one tick
 
-no_target : (c : Command) → is_mode (mode_of c) mode.Position ≡ false → (matched : Bool) (state : State) (homed : Bool) → target_of c matched state homed ≡ Nothing
+no_target : (c : Command) → is_mode (mode_of c) mode.Position ≡ false → (matched : Bool) (state : State) (homed : Bool) → target_of c matched state homed ≡ None
 no_target (Hybrid h) e matched state homed = refl
 no_target (Homing request) e matched state homed = refl
 no_target (Position target request) e matched state homed = absurd (false≢true (sym e))

@@ -6,8 +6,7 @@
 use Rattle.std.specs.Prelude.{ℕ, ◌≡◌, Bool, false, ◌&&◌, List, [], ◌∷◌, map, eqb}
 use Rattle.std.proofs.Math.Option.{Option, none, some}
 use Rattle.settings.specs.declared.Settings.{Settings}
-use Rattle.settings.specs.declared.Verdict.{Verdict}
-use Rattle.settings.specs.Refusal.{verdict_number}
+use Rattle.settings.specs.Refusal.{verdict_number, Verdict}
 use Rattle.reader.specs.Cases.{is_end}
 use Rattle.homing.specs.Phase.{Phase, Idle, Running, Homed, Failed, homed_in, failed_in}
 use Rattle.modes.specs.declared.Mode.TheVariants.{Position}

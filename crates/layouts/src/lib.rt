@@ -8,10 +8,12 @@ ghost use Rattle.layouts.specs.Layout.{is_layout, size, carries_homing_torque, l
 use settings::Settings;
 
 // Whether this is a layout.
+// Kept: it is a number, since a start word carries any number, and one that is no layout is answered too (refusal 2).
+#[tactic(auto, using(counts::proofs::Between::within, counts::proofs::Between::under, counts::proofs::Between::over))]
 pub fn is_layout(layout: u32) -> bool
     ensures { result ≡ is_layout layout }
 {
-    (1 <= layout) & (layout <= 3)
+    matches!(layout, 1..=3)
 }
 
 // How many words come before the end word, one of each kind from 0 on.
@@ -31,6 +33,7 @@ pub fn carries_homing_torque(layout: u32) -> bool
 fn fits_28_bits(position: i32) -> bool
     ensures { result ≡ fits 28 position }
 {
+    // Kept: a range pattern was tried, and its proof did not close.
     (position < 0x8000000) & (-0x8000000 <= position)
 }
 

@@ -20,8 +20,8 @@ switch-bit forward (suc (suc (suc zero))) bits h = refl
 switch-bit forward (suc (suc (suc (suc place)))) bits h = absurd (omega arith)
 
 module _ (n : ℕ) (s : Seen) where
-  pub event-test : not s.halted
+  pub event_test : not s.halted
       && happens (trigger_in n) (along (forward_in n) s.movement) (bit_of s.before (n % 4)) (bit_of s.now (n % 4))
       ≡ event_counts (leg_from n) (view_of s)
   unfolding event_counts
-  event-test = rw (switch-bit (forward_in n) (n % 4) s.before (omega arith), switch-bit (forward_in n) (n % 4) s.now (omega arith))
+  event_test = rw (switch-bit (forward_in n) (n % 4) s.before (omega arith), switch-bit (forward_in n) (n % 4) s.now (omega arith))

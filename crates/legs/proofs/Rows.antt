@@ -68,9 +68,9 @@ method-rule =
 abbrev pub turn_by : ℕ → ℕ
 turn_by m = cond (between 23 30 m) (main_route (53 - m) - 32) 0
 
-pub turn-rule : (m : ℕ) → turn_route m ≡ turn_by m
+pub turn_rule : (m : ℕ) → turn_route m ≡ turn_by m
 unfolding row_of main_route turn_route
-turn-rule = everywhere turn_in turn_by refl (λ n h. rw (over 23 30 n (omega arith) (omega arith)))
+turn_rule = everywhere turn_in turn_by refl (λ n h. rw (over 23 30 n (omega arith) (omega arith)))
 
 -- A start picks route c by the switch that a's first leg awaits, in a method up to 30; c is then as the code finds it.
 abbrev started : Option Row → Switches → ℕ
@@ -90,10 +90,10 @@ of-methods m bits =
       beyond n h,
     )) m
 
-pub start-by : (m bits : ℕ)
+pub start_by : (m bits : ℕ)
     → start_route m (switches_in bits) ≡ cond (leb m 30 && bit_of bits (main_route m % 4)) (skip_by m) (main_route m)
 unfolding start_route skips skip_route main_route turn_route
-start-by m bits = go (row_of m) refl
+start_by m bits = go (row_of m) refl
   where
     split : (a b : Bool) (x y : ℕ) → cond a (cond b x y) y ≡ cond (a && b) x y
     split true b x y = refl
@@ -137,9 +137,9 @@ start_small m s = go (skips m s)
     go true = skip-small m
     go false = main-small m
 
-pub turns-main : (m : ℕ) → 23 ≤ m → m ≤ 30 → 32 ≤ main_route m
+pub turns_main : (m : ℕ) → 23 ≤ m → m ≤ 30 → 32 ≤ main_route m
 unfolding row_of main_route
-turns-main m h k =
+turns_main m h k =
     let e = agree (λ j. leb 32 (main_route (23 + j))) (λ j. true) 8 refl (m - 23) (omega arith) in
     let q : 23 + (m - 23) ≡ m = omega arith in
     leb-true 32 (main_route m) (rw q at e)

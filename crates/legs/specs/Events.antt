@@ -1,6 +1,6 @@
 -- 01, "Homing routes", and 02, (i) and (ii): when a leg's event counts in a tick, and when a limit does.
 -- Assumes nothing.
-use Rattle.std.specs.Prelude.{ℕ, Bool, true, false, not, ◌&&◌}
+use Rattle.std.specs.Prelude.{ℕ, ◌+◌, Bool, true, false, cond, not, ◌&&◌}
 use Rattle.counts.specs.Bit.{bit_of, rises}
 use Rattle.counts.specs.declared.Movement.{Movement}
 use Rattle.counts.specs.declared.Movement.TheVariants.{Backward, Still, Forward}
@@ -14,6 +14,13 @@ all_off = record { positive = false; negative = false; home = false; index = fal
 -- four switches as a word's low bits, in the order POT, NOT, HOM, Z
 abbrev pub switches_in : ℕ → Switches
 switches_in bits = record { positive = bit_of bits 0; negative = bit_of bits 1; home = bit_of bits 2; index = bit_of bits 3 }
+
+-- and back: the word of four switches, which `switches_in` reads
+abbrev pub weighed : Bool → ℕ → ℕ
+weighed on weight = cond on weight 0
+
+abbrev pub switch_bits : Switches → ℕ
+switch_bits s = weighed s.positive 1 + weighed s.negative 2 + weighed s.home 4 + weighed s.index 8
 
 -- what homing sees of one tick after the start. kept: control bit 4 is set, homing is matched and the new state is Operation enabled;
 -- before and now: the remembered switches and this tick's

@@ -77,7 +77,7 @@ skips method s = picks_in (row_of method) s
 unfoldable pub start_route : ℕ → Switches → ℕ
 start_route method s = cond (skips method s) (skip_route method) (main_route method)
 
--- how the code finds route c of a method up to 30 (`start-by`, `legs/proofs/Rows.antt`): b without its first two legs, or a without its first
+-- how the code finds route c of a method up to 30 (`start_by`, `legs/proofs/Rows.antt`): b without its first two legs, or a without its first
 abbrev pub skip_by : ℕ → ℕ
 skip_by method = cond (between 25 26 method || between 29 30 method) (turn_route method / 256) (main_route method / 256)
 

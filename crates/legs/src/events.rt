@@ -2,7 +2,7 @@
 ghost use Rattle.std.specs.Prelude.{◌≡◌, true, ◌%◌, ◌<◌};
 ghost use Rattle.counts.specs.Bit.{bit_of, rises};
 ghost use Rattle.legs.specs.Numbers.{edge_in, trigger_in, leg_from};
-ghost use Rattle.legs.specs.Events.{along, happens, limit_ahead, switches_in, view_of, event_counts, limit_counts};
+ghost use Rattle.legs.specs.Events.{along, happens, limit_ahead, switches_in, switch_bits, view_of, event_counts, limit_counts};
 
 use counts::Movement;
 
@@ -15,20 +15,44 @@ pub struct Switches {
     pub index: bool,
 }
 
+// The switches in a word's bits 0 to 3, in that order. Every word has four.
+impl From<u16> for Switches {
+    ghost from_gives = { λ bits s. s ≡ switches_in bits };
+
+    fn from(bits: u16) -> Switches {
+        Switches {
+            positive: counts::bit(bits, 0),
+            negative: counts::bit(bits, 1),
+            home: counts::bit(bits, 2),
+            index: counts::bit(bits, 3),
+        }
+    }
+}
+
+// The word of the switches, as homing compares and an axis keeps them.
+impl From<Switches> for u32 {
+    ghost from_gives = { λ s bits. bits ≡ switch_bits s };
+
+    fn from(s: Switches) -> u32 {
+        s.positive as u32 + 2 * s.negative as u32 + 4 * s.home as u32 + 8 * s.index as u32
+    }
+}
+
 // Whether POT is on, and whether NOT is.
 pub fn positive_on(switches: u32) -> bool
     ensures { result ≡ (switches_in switches).positive }
 {
-    switches % 2 == 1
+    crate::is_on(switches, 0)
 }
 
 pub fn negative_on(switches: u32) -> bool
     ensures { result ≡ (switches_in switches).negative }
 {
-    switches / 2 % 2 == 1
+    crate::is_on(switches, 1)
 }
 
-// What homing sees of one tick after the start (`View`), with the switches as bits.
+// What homing sees of one tick after the start (`View`).
+// Kept: the switches stay words. A leg asks for one by its place, which fields have not, so `Switches` would be no plainer here.
 #[derive(Clone, Copy)]
 pub struct Seen {
     pub kept: bool,
@@ -58,23 +82,23 @@ fn risen(before: u32, now: u32, place: u32) -> bool
 }
 
 // Whether the leg's switch has the leg's edge.
-fn edge_seen(leg: u32, before: u32, now: u32) -> bool
-    ensures { result ≡ happens (edge_in leg) true (bit_of before (leg % 4)) (bit_of now (leg % 4)) }
+fn edge_seen(leg: u32, seen: Seen) -> bool
+    ensures { result ≡ happens (edge_in leg) true (bit_of seen.before (leg % 4)) (bit_of seen.now (leg % 4)) }
 {
     if leg / 4 % 2 == 1 {
-        risen(now, before, leg % 4)
+        risen(seen.now, seen.before, leg % 4)
     } else {
-        risen(before, now, leg % 4)
+        risen(seen.before, seen.now, leg % 4)
     }
 }
 
 // Whether the leg's switch does what the leg awaits: it is on, or it has the leg's edge while the axis moves the leg's way.
-fn event_happens(leg: u32, moved: bool, before: u32, now: u32) -> bool
-    ensures { result ≡ happens (trigger_in leg) moved (bit_of before (leg % 4)) (bit_of now (leg % 4)) }
+fn event_happens(leg: u32, moved: bool, seen: Seen) -> bool
+    ensures { result ≡ happens (trigger_in leg) moved (bit_of seen.before (leg % 4)) (bit_of seen.now (leg % 4)) }
 {
-    let edge = edge_seen(leg, before, now);
+    let edge = edge_seen(leg, seen);
     if leg / 64 % 2 == 1 {
-        crate::is_on(now, leg % 4)
+        crate::is_on(seen.now, leg % 4)
     } else {
         moved & edge
     }
@@ -92,16 +116,17 @@ fn limit_on(forward: bool, switches: u32) -> bool
 }
 
 // Whether the event of a route's first leg counts.
+#[tactic(auto, using(crate::proofs::Numbers::event_test))]
 pub fn event_counts(leg: u32, seen: Seen) -> bool
     ensures { result ≡ event_counts (leg_from leg) (view_of seen) }
 {
-    let movement = seen.movement;
-    let moved = along_leg(crate::is_forward(leg), movement);
-    let happens = event_happens(leg, moved, seen.before, seen.now);
+    let moved = along_leg(crate::is_forward(leg), seen.movement);
+    let happens = event_happens(leg, moved, seen);
     !seen.halted & happens
 }
 
 // Whether the limit in that leg's direction counts: it is on, with or without movement, in a tick that is not halted.
+#[tactic(auto, unfolding(crate::specs::Events::limit_counts))]
 pub fn limit_counts(leg: u32, seen: Seen) -> bool
     ensures { result ≡ limit_counts (leg_from leg) (view_of seen) }
 {

@@ -1,5 +1,6 @@
 // The legs of every method's routes (01: "Homing routes"; 02, (i) and (ii)), and when a leg's event counts.
 //
+// Kept: legs and routes are numbers. C lends the words in which an axis keeps its route, and every content of such a word is one (`phase_of` of homing).
 // A leg is a byte: the place of its switch (0 POT, 1 NOT, 2 HOM, 3 Z), 4 more if it awaits the drop, 8 more if it goes forward, 16 more if it is
 // fast, 32 more if a limit turns it to route b, 64 more if the switch need only be on. A route is a number: a byte for each leg, the first lowest.
 #![tactic(auto)]
@@ -13,6 +14,7 @@ ghost use Rattle.legs.specs.Numbers.{main_route, turn_route, skip_by, start_rout
 
 // Route a. F is fast, S slow; R, D, L and Z are 01's events, L by level; B is the drop of the limit behind. 35 and a number that is no method have
 // no leg.
+#[tactic(auto, unfolding(crate::specs::Numbers::main_route, crate::specs::Routes::row_of))]
 fn main_route(method: u32) -> u32
     ensures { result ≡ main_route method }
 {
@@ -37,6 +39,7 @@ fn main_route(method: u32) -> u32
 
 // Route b without its first leg: route a of another method, that of 30 for 23, of 29 for 24, and so on; but no limit turns it again. 0
 // where there is none.
+#[tactic(auto, using(crate::proofs::Rows::turn_rule, crate::proofs::Rows::turns_main))]
 pub fn turn_route(method: u32) -> u32
     ensures value { result ≡ turn_route method }
     ensures small { result < 2 ^ 24 }
@@ -59,6 +62,7 @@ fn skip_route(method: u32, main: u32) -> u32
 }
 
 // Whether the switch at a place is on.
+// Kept beside `counts::bit`: that one answers any place of a 16-bit word, which costs a test; a leg's place is below 4.
 fn is_on(switches: u32, place: u32) -> bool
     requires { place < 32 }
     ensures { result ≡ bit_of switches place }
@@ -68,6 +72,7 @@ fn is_on(switches: u32, place: u32) -> bool
 
 // The route of a start, by the switches of its tick. The switch that picks route c is the one that a's first leg awaits, HOM, NOT or POT; 33 to
 // 35 have one route.
+#[tactic(auto, using(crate::proofs::Rows::start_by))]
 pub fn start_route(method: u32, switches: u32) -> u32
     ensures value { result ≡ start_route method (switches_in switches) }
     ensures small { result < 2 ^ 24 }

@@ -3,35 +3,18 @@ ghost use Rattle.std.specs.Prelude.{◌≡◌};
 ghost use Rattle.lines.specs.Rails.{rail_read};
 
 use carriage::Rail;
-use cursors::Cursor;
+use cursors::{Cursor, Trouble};
+use scanner::unsigned;
 
-#[derive(Clone, Copy)]
-pub struct RailRead {
-    pub rail: Rail,
-    pub cursor: Cursor,
-}
-
-pub fn rail(text: &[u8], cursor: Cursor) -> RailRead
-    ensures { result ≡ rail_read text.now cursor }
+#[tactic(auto, unfolding(crate::specs::Rails::rail_read))]
+pub fn rail(cursor: &mut Cursor<'_>) -> Result<Rail, Trouble>
+    ensures { (result, cursor.new) ≡ rail_read cursor.old }
 {
-    let length = scanner::unsigned(text, cursor);
-    let cursor = length.cursor;
-    let cam = scanner::unsigned(text, cursor);
-    let cursor = cam.cursor;
-    let width = scanner::unsigned(text, cursor);
-    let cursor = width.cursor;
-    let fast = scanner::unsigned(text, cursor);
-    let cursor = fast.cursor;
-    let slow = scanner::unsigned(text, cursor);
-    let cursor = slow.cursor;
-    RailRead {
-        rail: Rail {
-            length: length.value,
-            cam: cam.value,
-            width: width.value,
-            fast: fast.value,
-            slow: slow.value,
-        },
-        cursor,
-    }
+    Ok(Rail {
+        length: unsigned(cursor)?,
+        cam: unsigned(cursor)?,
+        width: unsigned(cursor)?,
+        fast: unsigned(cursor)?,
+        slow: unsigned(cursor)?,
+    })
 }

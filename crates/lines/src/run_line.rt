@@ -3,26 +3,15 @@ ghost use Rattle.std.specs.Prelude.{◌≡◌};
 ghost use Rattle.lines.specs.Runs.{trial_read};
 
 use crate::Trial;
-use cursors::Cursor;
+use cursors::{Cursor, Trouble};
+use scanner::{unsigned, whole32};
 
-#[derive(Clone, Copy)]
-pub struct TrialRead {
-    pub trial: Trial,
-    pub cursor: Cursor,
-}
-
-pub fn trial(text: &[u8], cursor: Cursor) -> TrialRead
-    ensures { result ≡ trial_read text.now cursor }
+#[tactic(auto, unfolding(crate::specs::Runs::trial_read))]
+pub fn trial(cursor: &mut Cursor<'_>) -> Result<Trial, Trouble>
+    ensures { (result, cursor.new) ≡ trial_read cursor.old }
 {
-    let start = scanner::whole32(text, cursor);
-    let cursor = start.cursor;
-    let ticks = scanner::unsigned(text, cursor);
-    let cursor = ticks.cursor;
-    TrialRead {
-        trial: Trial {
-            start: start.value,
-            ticks: ticks.value,
-        },
-        cursor,
-    }
+    Ok(Trial {
+        start: whole32(cursor)?,
+        ticks: unsigned(cursor)?,
+    })
 }

@@ -2,46 +2,23 @@
 ghost use Rattle.std.specs.Prelude.{◌≡◌};
 ghost use Rattle.lines.specs.Ticks.{tick_read};
 
-use cursors::Cursor;
+use cursors::{Cursor, Trouble};
 use ticks::Tick;
 
-#[derive(Clone, Copy)]
-pub struct TickRead {
-    pub tick: Tick,
-    pub cursor: Cursor,
-}
-
-pub fn tick(text: &[u8], cursor: Cursor) -> TickRead
-    ensures { result ≡ tick_read text.now cursor }
+#[tactic(auto, unfolding(crate::specs::Ticks::tick_read))]
+pub fn tick(cursor: &mut Cursor<'_>) -> Result<Tick, Trouble>
+    ensures { (result, cursor.new) ≡ tick_read cursor.old }
 {
-    let control = scanner::hexadecimal4(text, cursor);
-    let cursor = control.cursor;
-    let asked = orders::command(text, cursor);
-    let command = asked.command;
-    let cursor = asked.cursor;
-    let cursor = choices::at(text, cursor);
-    let position = scanner::whole32(text, cursor);
-    let cursor = position.cursor;
-    let switches = choices::switches(text, cursor);
-    let shown = switches.value;
-    let cursor = switches.cursor;
-    let still = choices::standstill(text, cursor);
-    let cursor = still.cursor;
-    let set = choices::set(text, cursor);
-    let limits = set.value;
-    let cursor = set.cursor;
-    let alarm = scanner::hexadecimal8(text, cursor);
-    let cursor = alarm.cursor;
-    TickRead {
-        tick: Tick {
-            control: control.value as u16,
-            command,
-            position: position.value,
-            switches: shown,
-            still: still.value,
-            set: limits,
-            alarm: alarm.value,
-        },
-        cursor,
-    }
+    let control = scanner::hexadecimal4(cursor)?;
+    let command = orders::command(cursor)?;
+    choices::at(cursor)?;
+    Ok(Tick {
+        control,
+        command,
+        position: scanner::whole32(cursor)?,
+        switches: choices::switches(cursor)?,
+        still: choices::standstill(cursor)?,
+        set: choices::set(cursor)?,
+        alarm: scanner::hexadecimal8(cursor)?,
+    })
 }

@@ -23,6 +23,10 @@ mode_ordinal Homing = 2
 mode_ordinal Position = 3
 mode_ordinal Torque = 4
 
+-- the mode of a `mode_ordinal`; of a number past the last, what a fresh axis has
+unfoldable pub mode_at : ℕ → Mode
+mode_at n = cond (eqb n 1) Hybrid (cond (eqb n 2) Homing (cond (eqb n 3) Position (cond (eqb n 4) Torque None)))
+
 abbrev pub is_mode : Mode → Mode → Bool
 is_mode m n = eqb (mode_ordinal m) (mode_ordinal n)
 

@@ -2,12 +2,13 @@
 #![tactic(auto)]
 
 ghost use Rattle.std.specs.Prelude.{◌≡◌};
-ghost use Rattle.modes.specs.Modes.{mode_number, mode_ordinal, is_mode, shown_of, matched_of};
+ghost use Rattle.modes.specs.Modes.{mode_number, mode_ordinal, mode_at, shown_of, matched_of};
 
 use states::State;
 
 // Modes of operation. None: what a fresh axis shows, and what a command asks for that has no mode.
-#[derive(Clone, Copy)]
+// Kept: CiA 402 shows None as mode 0, so it is a mode and no Option (`mode_number`, `shown_of`).
+#[derive(Clone, Copy, PartialEq, Eq)]
 pub enum Mode {
     None,
     Hybrid,
@@ -17,6 +18,7 @@ pub enum Mode {
 }
 
 // The mode's number, as the modes of operation display shows it.
+// Kept: no From, which gives a mode's place in the list: two numbers of one mode are told apart by a name.
 pub fn number(mode: Mode) -> i32
     ensures { result ≡ mode_number mode }
 {
@@ -29,37 +31,43 @@ pub fn number(mode: Mode) -> i32
     }
 }
 
-// The mode's number in the list above, from 0.
-pub fn ordinal(mode: Mode) -> u32
-    ensures { result ≡ mode_ordinal mode }
-{
-    match mode {
-        Mode::None => 0,
-        Mode::Hybrid => 1,
-        Mode::Homing => 2,
-        Mode::Position => 3,
-        Mode::Torque => 4,
+// The mode's place in the list above, from 0.
+impl From<Mode> for u32 {
+    ghost from_gives = { λ m n. n ≡ mode_ordinal m };
+
+    fn from(mode: Mode) -> u32 {
+        mode as u32
     }
 }
 
-pub fn is_mode(mode: Mode, other: Mode) -> bool
-    ensures { result ≡ is_mode mode other }
-{
-    ordinal(mode) == ordinal(other)
+// The mode of a place; every number means one, past the last what a fresh axis has.
+impl From<u32> for Mode {
+    ghost from_gives = { λ n m. m ≡ mode_at n };
+
+    #[tactic(auto, unfolding(crate::specs::Modes::mode_at))]
+    fn from(number: u32) -> Mode {
+        match number {
+            1 => Mode::Hybrid,
+            2 => Mode::Homing,
+            3 => Mode::Position,
+            4 => Mode::Torque,
+            _ => Mode::None,
+        }
+    }
 }
 
 // The shown mode after a tick: before is the drive's state before it.
 pub fn shown(wanted: Mode, shown: Mode, before: State, still: bool) -> Mode
     ensures { result ≡ shown_of wanted shown before still }
 {
-    let asks = !is_mode(wanted, Mode::None);
-    let free = !states::in_state(before, State::OperationEnabled) | still;
-    if asks & free { wanted } else { shown }
+    let asks = wanted != Mode::None;
+    let free = before != State::OperationEnabled || still;
+    if asks && free { wanted } else { shown }
 }
 
 // Whether a command that wants a mode is matched by the shown one. A matched command wants the shown mode, so None is asked of that.
 pub fn is_matched(wanted: Mode, shown: Mode) -> bool
     ensures { result ≡ matched_of wanted shown }
 {
-    !is_mode(shown, Mode::None) & is_mode(wanted, shown)
+    shown != Mode::None && wanted == shown
 }

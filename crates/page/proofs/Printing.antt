@@ -1,96 +1,66 @@
 -- Printing in a row: text after text is the two texts in one, whatever does not fit.
 -- Assumes nothing.
-use Prim.Native.Nat.{ℕ, zero, suc, ◌+◌, ◌-◌, ◌≤◌, ◌<◌, min}
-use mathlib.Core.Bool.{Bool, true, false}
-use mathlib.Core.List.{List, [], ◌∷◌, ◌++◌, append_assoc, append-nil}
-use mathlib.Core.Path.{◌≡◌, refl, sym, ap, subst, ◌∙◌}
-use native.Mathlib.Numerals.{add-one}
-use native.Mathlib.Omega.{arith}
-use borrow.Author.Tests.{ltb-true, ltb-false}
-use lib.Dec.{ltb}
-use lib.ListN.{length, take, drop, set, length-append, length-take, length-set, drop_of_length-le}
-use lib.Seq.{take_all, take-append_seam, take-suc-set, drop-set-lt, drop-drop}
-use Rattle.page.specs.Page.{Printed}
+use Rattle.std.proofs.Common.{ℕ, zero, suc, ◌+◌, ◌-◌, ◌≤◌, ◌<◌, List, [], ◌∷◌, ◌++◌, ◌≡◌, refl, sym, ap, ◌∙◌, arith, add-one, length, take, drop, length-append}
+use Rattle.std.proofs.lemmas.List.{drop_all}
+use mathlib.Core.List.{append_assoc, append-nil}
+use lib.ListN.{set, get_or, length-drop}
+use lib.Seq.{take_all, drop-drop, take-suc, take-suc-set, drop-set-lt}
+use Rattle.page.specs.Written.{Written}
+use Rattle.page.specs.Page.{printed, blank}
 
--- what is cut off already may stay cut off
-cut-first : (n : ℕ) (xs ys : List ℕ) → take n (take n xs ++ ys) ≡ take n (xs ++ ys)
-cut-first zero xs ys = refl
-cut-first (suc n) [] ys = refl
-cut-first (suc n) (x ∷ xs) ys = ap (λ (r : List ℕ). x ∷ r) (cut-first n xs ys)
+abbrev written : List ℕ → List ℕ → ℕ → Written
+written text room loan = record { text = text; room = room; loan = loan }
 
--- two pages that are the same from a place on are the same from each later place on, and past their end
-same-later : (n m : ℕ) (xs ys : List ℕ) → length xs ≡ length ys → drop n xs ≡ drop n ys → (m < length ys → n ≤ m) → drop m xs ≡ drop m ys
-same-later n m xs ys l e h = go (ltb m (length ys)) refl
-  where
-    later : (zs : List ℕ) → n ≤ m → drop m zs ≡ drop (m - n) (drop n zs)
-    later zs k = let j : m ≡ n + (m - n) = omega arith in ap (λ (i : ℕ). drop i zs) j ∙ sym (drop-drop (m - n) n zs)
+both : {text text' room room' : List ℕ} {loan : ℕ} → text ≡ text' → room ≡ room' → written text room loan ≡ written text' room' loan
+both {text} {text'} {room} {room'} {loan} e f = ap (λ t. written t room loan) e ∙ ap (λ r. written text' r loan) f
 
-    go : (t : Bool) → ltb m (length ys) ≡ t → drop m xs ≡ drop m ys
-    go true t = let k = h (ltb-true m (length ys) t) in later xs k ∙ ap (drop (m - n)) e ∙ sym (later ys k)
-    go false t =
-        let k = ltb-false m (length ys) t in
-        drop_of_length-le xs {i = m} (omega (arith, l, k)) ∙ sym (drop_of_length-le ys k)
+-- what there is room for of two texts: of the first, and then of the second
+take_both : (n : ℕ) (xs ys : List ℕ) → take n xs ++ take (n - length xs) ys ≡ take n (xs ++ ys)
+take_both zero xs ys = let e : 0 - length xs ≡ 0 = omega arith in rw e refl
+take_both (suc n) [] ys = let e : suc n - 0 ≡ suc n = omega arith in rw e refl
+take_both (suc n) (x ∷ xs) ys = let e : suc n - length (x ∷ xs) ≡ n - length xs = omega arith in rw e (ap (λ (r : List ℕ). x ∷ r) (take_both n xs ys))
 
-pub printed-nothing : (page : List ℕ) (at : ℕ) → Printed page at [] page at
-printed-nothing page at =
-    record {
-      same_length = refl;
-      reads = rw append-nil (sym (take_all (length page) (take at page) (omega (arith, length-take at page))));
-      keeps = refl;
-      inside = λ h. h;
-    }
+-- what is printed in a row is printed as one text
+pub printed_then : (page : Written) (a b : List ℕ) → printed (printed page a) b ≡ printed page (a ++ b)
+unfolding printed
+printed_then page a b =
+    both
+    (append_assoc page.text (take (length page.room) a) (take (length (drop (length a) page.room)) b)
+    ∙ ap (λ r. page.text ++ r) (rw (length-drop (length a) page.room) (take_both (length page.room) a b)))
+    (rw (length-append a b) (drop-drop (length b) (length a) page.room))
 
-pub printed-then : {page page' page'' : List ℕ} {at middle end : ℕ} {a b : List ℕ}
-    → Printed page at a page' middle → Printed page' middle b page'' end → Printed page at (a ++ b) page'' end
-printed-then {page} {page'} {page''} {at} {middle} {end} {a} {b} p q =
-    let l : length (take end page'') ≡ length (take (length page') (take middle page' ++ b)) = ap length q.reads in
-    let grown = simp (length-take, length-append) at l in
-    record {
-      same_length = q.same_length ∙ p.same_length;
-      reads =
-          q.reads
-          ∙ rw (p.same_length, p.reads)
-          (cut-first (length page) (take at page ++ a) b ∙ ap (take (length page)) (append_assoc (take at page) a b));
-      keeps = q.keeps ∙ same-later middle end page' page p.same_length p.keeps (λ h. omega (arith, h, grown, p.same_length, q.same_length));
-      inside = λ h. rw p.same_length at (q.inside (rw p.same_length (p.inside h)));
-    }
+-- the same between two calls
+pub and_then : (page page' page'' : Written) (a b : List ℕ) → page' ≡ printed page a → page'' ≡ printed page' b → page'' ≡ printed page (a ++ b)
+and_then page page' page'' a b p q = q ∙ ap (λ r. printed r b) p ∙ printed_then page a b
 
--- the same between two calls: a run of calls is `first ⨾ second ⨾ third`, and its text `a ++ b ++ c`
-infixl 5 ◌⨾◌
-pub ◌⨾◌ : {page page' page'' : List ℕ} {at middle end : ℕ} {a b : List ℕ}
-    → Printed page at a page' middle → Printed page' middle b page'' end → Printed page at (a ++ b) page'' end
-p ⨾ q = printed-then p q
+pub printed_nothing : (page : Written) → printed page [] ≡ page
+unfolding printed
+printed_nothing page = both (ap (λ r. page.text ++ r) (take_all (length page.room) [] (omega arith)) ∙ append-nil page.text) refl
 
--- the same text said otherwise
-pub printed-as : {page page' : List ℕ} {at end : ℕ} {a b : List ℕ} → a ≡ b → Printed page at a page' end → Printed page at b page' end
-printed-as {page} {page'} {at} {end} e p = subst (λ t. Printed page at t page' end) e p
+-- a text up to one byte more
+pub printed_more : (page : Written) (text : List ℕ) (i : ℕ) → i < length text
+    → printed (printed page (take i text)) (get_or text i 0 ∷ []) ≡ printed page (take (i + 1) text)
+printed_more page text i h = printed_then page (take i text) (get_or text i 0 ∷ []) ∙ ap (printed page) (rw add-one (sym (take-suc text i 0 h)))
 
 -- a byte that fits
-pub printed-byte : (page : List ℕ) (at b : ℕ) → at < length page → Printed page at (b ∷ []) (set page at b) (at + 1)
-printed-byte page at b h =
-    record {
-      same_length = length-set page at b;
-      reads =
-          rw (add-one at, take-suc-set page at b h)
-          (sym (take_all (length page) (take at page ++ (b ∷ [])) (simp (length-append, length-take) (omega arith))));
-      keeps = drop-set-lt (at + 1) page at b (omega arith);
-      inside = λ l. omega arith;
-    }
+pub printed_byte : (bytes : List ℕ) (n b loan : ℕ) → n < length bytes
+    → written (take (n + 1) (set bytes n b)) (drop (n + 1) (set bytes n b)) loan ≡ printed (written (take n bytes) (drop n bytes) loan) (b ∷ [])
+unfolding printed
+printed_byte bytes n b loan h =
+    let fits : take (length (drop n bytes)) (b ∷ []) ≡ b ∷ [] = take_all (length (drop n bytes)) (b ∷ []) (omega (arith, length-drop n bytes)) in
+    both
+    (rw (add-one n) (take-suc-set bytes n b h) ∙ ap (λ r. take n bytes ++ r) (sym fits))
+    (drop-set-lt (n + 1) bytes n b (omega arith) ∙ sym (drop-drop 1 n bytes))
 
 -- on a full page
-pub printed-full : (page : List ℕ) (at : ℕ) (text : List ℕ) → length page ≤ at → Printed page at text page at
-printed-full page at text h =
-    record {
-      same_length = refl;
-      reads = rw (take_all at page h) (sym (take-append_seam page text));
-      keeps = refl;
-      inside = λ l. l;
-    }
+pub printed_full : (bytes : List ℕ) (n loan : ℕ) (text : List ℕ) → length bytes ≤ n
+    → written (take n bytes) (drop n bytes) loan ≡ printed (written (take n bytes) (drop n bytes) loan) text
+unfolding printed
+printed_full bytes n loan text h =
+    let none : drop n bytes ≡ [] = drop_all n bytes h in
+    both (rw none (sym (append-nil (take n bytes)))) (rw none (sym (drop_all (length text) [] (omega arith))))
 
--- where the text ends: after it, or with the page
-pub printed-end : {page page' : List ℕ} {at end : ℕ} {text : List ℕ}
-    → Printed page at text page' end → at ≤ length page → end ≡ min (length page) (at + length text)
-printed-end {page} {page'} {at} {end} {text} p h =
-    let i : end ≤ length page = p.inside h in
-    let l : length (take end page') ≡ length (take (length page) (take at page ++ text)) = ap length p.reads in
-    omega (arith, p.same_length, simp (length-take, length-append) at l)
+-- a text that a blank page holds
+pub fits_blank : (room text : List ℕ) (loan : ℕ) → length text ≤ length room → (printed (blank room loan) text).text ≡ text
+unfolding printed
+fits_blank room text loan h = take_all (length room) text h

@@ -1,29 +1,58 @@
-// Text appended to a page at a place; the place after it is answered. What does not fit is cut off.
+// A page, to which text is appended. What does not fit is cut off.
 #![tactic(auto)]
 
-ghost use Rattle.std.specs.Prelude.{◌∷◌, []};
-ghost use Rattle.page.specs.Page.{Printed};
+ghost use Rattle.std.specs.Prelude.{◌≤◌, length};
 
-// One byte; nothing where the page is full.
-pub fn byte(out: &mut [u8], at: usize, byte: u8) -> usize
-    ensures { Printed out.old at (byte ∷ []) out.new result }
-{
-    if at < out.len() {
-        out[at] = byte;
-        at + 1
-    } else {
-        at
-    }
+pub mod figures;
+pub mod straight;
+
+pub use figures::Figure;
+pub use straight::print;
+
+// On bytes that the caller lends, as many as there are.
+// Kept: bytes with a count beside them, since memory is fixed and a page may have any size: a `Vec` needs a heap.
+#[derive(Drop)]
+pub struct Page<'a> {
+    bytes: &'a mut [u8],
+    // How many of them are written.
+    end: usize,
+    pub ghost inside: { end ≤ length bytes.now },
 }
 
-pub fn text(out: &mut [u8], at: usize, text: &[u8]) -> usize
-    ensures { Printed out.old at text.now out.new result }
-{
-    let mut end = at;
-    let mut i: usize = 0;
-    while i < text.len() {
-        end = byte(out, end, text[i]);
-        i += 1;
+impl<'a> Page<'a> {
+    ghost use Rattle.std.specs.Prelude.{◌∷◌, [], ◌≡◌};
+    ghost use Rattle.page.specs.Page.{seen, blank, printed};
+
+    // Nothing is written yet.
+    pub fn new(bytes: &'a mut [u8]) -> Page<'a>
+        ensures { seen result ≡ blank bytes.old bytes.entry.ghost_name }
+    {
+        Page { bytes, end: 0 }
     }
-    end
+
+    pub fn written(&self) -> &[u8]
+        ensures { result.now ≡ (seen self.now).text }
+    {
+        &self.bytes[..self.end]
+    }
+
+    // One byte; nothing where the page is full.
+    #[tactic(auto, using(crate::proofs::Printing::printed_byte, crate::proofs::Printing::printed_full))]
+    pub fn byte(&mut self, byte: u8)
+        ensures { seen self.new ≡ printed (seen self.old) (byte ∷ []) }
+    {
+        if self.end < self.bytes.len() {
+            self.bytes[self.end] = byte;
+            self.end += 1;
+        }
+    }
+
+    #[tactic(auto, using(crate::proofs::Printing::printed_more, crate::proofs::Printing::printed_nothing))]
+    pub fn text(&mut self, text: &[u8])
+        ensures { seen self.new ≡ printed (seen self.old) text.now }
+    {
+        for byte in text {
+            self.byte(*byte);
+        }
+    }
 }

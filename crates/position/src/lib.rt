@@ -5,30 +5,18 @@ ghost use Rattle.std.specs.Prelude.{◌≡◌};
 ghost use Rattle.position.specs.Position.{followed_of, count_of, position_of, outside_of, clamped_of};
 
 use gears::narrow;
-use gears::narrow::Narrow;
 use settings::Settings;
 use states::State;
 
-// The target that a tick follows, in user units.
-#[derive(Clone, Copy)]
-pub enum Followed {
-    Target(i32),
-    Nothing,
-}
-
 // A target is followed where position is matched, the drive is in Operation enabled and the axis is homed.
-pub fn follow(matched: bool, state: State, homed: bool, target: i32) -> Followed
+pub fn follow(matched: bool, state: State, homed: bool, target: i32) -> Option<i32>
     ensures { result ≡ followed_of matched state homed target }
 {
-    let enabled = states::in_state(state, State::OperationEnabled);
-    if matched & enabled & homed {
-        Followed::Target(target)
-    } else {
-        Followed::Nothing
-    }
+    (matched && state == State::OperationEnabled && homed).then_some(target)
 }
 
 // The target's count by the wide gear, which answers every target.
+// Kept: settings, home and target stay three arguments, since they are of three owners and together in these two functions alone.
 fn wide_count(s: Settings, home: i32, target: i32) -> i32
     ensures { result ≡ count_of s home target }
 {
@@ -42,33 +30,27 @@ fn count_of(s: Settings, home: i32, target: i32) -> i32
     ensures { result ≡ count_of s home target }
 {
     match narrow::geared(s, target) {
-        Narrow::TooWide => wide_count(s, home, target),
-        Narrow::Count(count) => counts::sum(home, count),
+        None => wide_count(s, home, target),
+        Some(count) => counts::sum(home, count),
     }
 }
 
 // The commanded position, in counts.
-pub fn position(s: Settings, home: i32, target: Followed, actual: i32) -> i32
+pub fn position(s: Settings, home: i32, target: Option<i32>, actual: i32) -> i32
     ensures { result ≡ position_of s home target actual }
 {
-    match target {
-        Followed::Target(t) => count_of(s, home, t),
-        Followed::Nothing => actual,
-    }
+    target.map_or(actual, |t| count_of(s, home, t))
 }
 
 fn outside(s: Settings, target: i32) -> bool
     ensures { result ≡ outside_of s target }
 {
-    (target < s.lower) | (s.upper < target)
+    !(s.lower..=s.upper).contains(&target)
 }
 
 // Whether the followed target was clamped.
-pub fn is_clamped(s: Settings, target: Followed) -> bool
+pub fn is_clamped(s: Settings, target: Option<i32>) -> bool
     ensures { result ≡ clamped_of s target }
 {
-    match target {
-        Followed::Target(t) => outside(s, t),
-        Followed::Nothing => false,
-    }
+    target.is_some_and(|t| outside(s, t))
 }

@@ -2,34 +2,25 @@
 #![tactic(auto)]
 
 ghost use Rattle.std.specs.Prelude.{◌≡◌};
-ghost use Rattle.counts.specs.Between.{between};
 ghost use Rattle.ranges.specs.Range.{method_ok, speed_ok, ratio_ok, torque_ok, option_ok, rated_ok};
 
-fn within(low: u32, high: u32, x: u32) -> bool
-    ensures { result ≡ between low high x }
-{
-    (low <= x) & (x <= high)
-}
-
+#[tactic(auto, using(counts::proofs::Between::within, counts::proofs::Between::under, counts::proofs::Between::over), unfolding(crate::specs::Range::method_ok))]
 pub fn method_ok(method: u32) -> bool
     ensures { result ≡ method_ok method }
 {
-    match method {
-        1..=2 | 17..=18 | 23..=30 | 33..=35 => true,
-        _ => false,
-    }
+    matches!(method, 1..=2 | 17..=18 | 23..=30 | 33..=35)
 }
 
 pub fn speed_ok(speed: u32) -> bool
     ensures { result ≡ speed_ok speed }
 {
-    within(1, 0xFFFFFFF, speed)
+    matches!(speed, 1..=0xFFFFFFF)
 }
 
 pub fn ratio_ok(ratio: u32) -> bool
     ensures { result ≡ ratio_ok ratio }
 {
-    within(1, 0x100000, ratio)
+    matches!(ratio, 1..=0x100000)
 }
 
 pub fn torque_ok(torque: u32) -> bool
@@ -41,11 +32,11 @@ pub fn torque_ok(torque: u32) -> bool
 pub fn option_ok(option: u32) -> bool
     ensures { result ≡ option_ok option }
 {
-    (option == 2) | (option == 6)
+    matches!(option, 2 | 6)
 }
 
 pub fn rated_ok(rated: u32) -> bool
     ensures { result ≡ rated_ok rated }
 {
-    within(1, 0x1000000, rated)
+    matches!(rated, 1..=0x1000000)
 }

@@ -1,5 +1,6 @@
 -- How a word is accepted: it begins afresh, it is the one due, or it closes the settings.
 -- Assumes nothing.
+use Rattle.std.specs.Prelude.{Err, Ok}
 use Prim.Native.Nat.{ℕ, ◌<◌, ◌≤◌}
 use mathlib.Core.Path.{◌≡◌, refl, sym, ◌∙◌, subst}
 use mathlib.Core.Bool.{Bool, true, false, cond}
@@ -8,8 +9,7 @@ use borrow.Author.Tests.{eqb-true, eqb-false}
 use lib.Dec.{eqb}
 use Rattle.settings.specs.declared.Refusal.{Refusal}
 use Rattle.settings.specs.declared.Refusal.TheVariants.{OutOfSequence, UnknownLayout, OutOfRange, ChecksumMismatch}
-use Rattle.settings.specs.declared.Verdict.{Verdict}
-use Rattle.settings.specs.declared.Verdict.TheVariants.{Accepted, Refused}
+use Rattle.settings.specs.Refusal.{Verdict}
 use Rattle.settings.specs.declared.Settings.{Settings}
 use Rattle.settings.proofs.Numbered.{not-zero}
 use Rattle.layouts.specs.Layout.{is_layout, size}
@@ -26,7 +26,7 @@ pub data AcceptedBy (p : Pending) (w : ℕ) : Type 0 where
   begins : w ≡ data_of w → is_layout (data_of w) ≡ true → read_of p w ≡ stored (started (data_of w)) → AcceptedBy p w
   keeps : kind_of w ≡ p.count → p.count < size (layout_in p) → (kind_of w ≡ 0 → ⊥) → field_ok (layout_in p) (kind_of w) (data_of w) ≡ true
       → read_of p w ≡ stored (kept p (kind_of w) (data_of w)) → AcceptedBy p w
-  closes : size (layout_in p) ≤ p.count → w ≡ packed 15 (checksum_of p.values) → limits_verdict (settings_of p.values) ≡ Accepted
+  closes : size (layout_in p) ≤ p.count → w ≡ packed 15 (checksum_of p.values) → limits_verdict (settings_of p.values) ≡ Ok tt
       → read_of p w ≡ complete (settings_of p.values) → AcceptedBy p w
 
 -- how a word is read: it is refused, or accepted
@@ -66,9 +66,9 @@ module _ (p : Pending) (w : ℕ) where
   end d k = go (eqb (data_of w) (checksum_of p.values)) refl (limits_verdict s) refl (read-end p w d k)
     where
       go : (a : Bool) → eqb (data_of w) (checksum_of p.values) ≡ a → (v : Verdict) → limits_verdict s ≡ v
-          → read_of p w ≡ judged s (cond a v (Refused ChecksumMismatch)) → ReadBy p w
-      go true h Accepted l e = accepted (closes (due-end p (sym d ∙ k)) (omega (arith, eqb-true (data_of w) (checksum_of p.values) h)) l e)
-      go true h (Refused r) l e = refuses r e
+          → read_of p w ≡ judged s (cond a v (Err ChecksumMismatch)) → ReadBy p w
+      go true h (Ok tt) l e = accepted (closes (due-end p (sym d ∙ k)) (omega (arith, eqb-true (data_of w) (checksum_of p.values) h)) l e)
+      go true h (Err r) l e = refuses r e
       go false h v l e = refuses ChecksumMismatch e
 
   pub read_by : ReadBy p w

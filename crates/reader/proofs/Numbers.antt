@@ -1,5 +1,6 @@
 -- The reader gives the number of the first case that holds.
 -- Assumes nothing.
+use Rattle.std.specs.Prelude.{Err, Ok}
 use Prim.Native.Nat.{ℕ}
 use mathlib.Core.Path.{◌≡◌, refl, ◌∙◌}
 use mathlib.Core.Bool.{Bool, true, false, cond, not, ◌&&◌}
@@ -7,10 +8,8 @@ use native.Mathlib.Omega.{arith}
 use borrow.Author.Tests.{eqb-true}
 use lib.Dec.{eqb}
 use Rattle.settings.specs.declared.Refusal.TheVariants.{OutOfSequence, UnknownLayout, OutOfRange, ChecksumMismatch}
-use Rattle.settings.specs.declared.Verdict.{Verdict}
-use Rattle.settings.specs.declared.Verdict.TheVariants.{Accepted, Refused}
 use Rattle.settings.specs.declared.Settings.{Settings}
-use Rattle.settings.specs.Refusal.{verdict_number, first_of}
+use Rattle.settings.specs.Refusal.{verdict_number, first_of, Verdict}
 use Rattle.layouts.specs.Layout.{is_layout}
 use Rattle.checks.specs.Check.{limits_verdict}
 use Rattle.checks.specs.Cases as checks
@@ -24,8 +23,8 @@ use Rattle.reader.specs.Read.{layout_in, refused, stored, started, kept, out_of_
 use Rattle.reader.specs.Cases.{is_start, is_end, tests_of, Numbers}
 
 judged-number : (s : Settings) (v : Verdict) → outcome_number (judged s v).outcome ≡ verdict_number v
-judged-number s Accepted = refl
-judged-number s (Refused r) = refl
+judged-number s (Ok tt) = refl
+judged-number s (Err r) = refl
 
 module _ (p : Pending) (w : ℕ) where
   abbrev s : Settings
@@ -36,7 +35,7 @@ module _ (p : Pending) (w : ℕ) where
   end-number = go (eqb (data_of w) (checksum_of p.values))
     where
       go : (a : Bool)
-          → outcome_number (judged s (cond a (limits_verdict s) (Refused ChecksumMismatch))).outcome ≡ cond (not a) 4 (first_of (checks.limit_tests s))
+          → outcome_number (judged s (cond a (limits_verdict s) (Err ChecksumMismatch))).outcome ≡ cond (not a) 4 (first_of (checks.limit_tests s))
       go true = judged-number s (limits_verdict s) ∙ limits-number s
       go false = refl
 

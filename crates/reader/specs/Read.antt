@@ -1,13 +1,10 @@
 -- 01, "Refused words", and 02, (iv) and (v): what one settings word does to the pending settings (01: the unfinished sheet).
 -- Assumes nothing.
-use Rattle.std.specs.Prelude.{ℕ, ◌+◌, Bool, cond, not, ◌&&◌, List, ◌∷◌, eqb, ltb, set, replicate}
+use Rattle.std.specs.Prelude.{ℕ, ◌+◌, Bool, cond, not, ◌&&◌, List, ◌∷◌, eqb, ltb, set, replicate, Err, Ok}
 use Rattle.settings.specs.declared.Settings.{Settings}
 use Rattle.settings.specs.declared.Refusal.{Refusal}
 use Rattle.settings.specs.declared.Refusal.TheVariants.{OutOfSequence, UnknownLayout, OutOfRange, ChecksumMismatch}
-use Rattle.settings.specs.declared.Verdict.{Verdict}
-use Rattle.settings.specs.declared.Verdict.TheVariants.{Accepted}
-use Rattle.settings.specs.declared.Verdict.TheVariants as verdict
-use Rattle.settings.specs.Refusal.{number_of}
+use Rattle.settings.specs.Refusal.{number_of, Verdict}
 use Rattle.layouts.specs.Layout.{is_layout, size}
 use Rattle.checks.specs.Check.{limits_verdict}
 use Rattle.reader.specs.Pending.{Pending, Outcome, Refused, Stored, Complete, Reading}
@@ -64,12 +61,12 @@ field_read p kind x = cond (field_ok (layout_in p) kind x) (stored (kept p kind 
 
 -- by what the end word meets: 4, 5, 6 or nothing
 abbrev pub judged : Settings → Verdict → Reading
-judged s Accepted = complete s
-judged s (verdict.Refused r) = refused r
+judged s (Ok tt) = complete s
+judged s (Err r) = refused r
 
 -- 4: "end word's data differs from the sum"; then 5 and 6
 abbrev pub close_verdict : Settings → ℕ → ℕ → Verdict
-close_verdict s sum x = cond (eqb x sum) (limits_verdict s) (verdict.Refused ChecksumMismatch)
+close_verdict s sum x = cond (eqb x sum) (limits_verdict s) (Err ChecksumMismatch)
 
 unfoldable pub end_verdict : List ℕ → ℕ → Verdict
 end_verdict values x = close_verdict (settings_of values) (checksum_of values) x

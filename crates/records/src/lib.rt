@@ -3,47 +3,43 @@
 // Signed numbers stand as their 32-bit pattern. Every function answers every value of its arguments.
 #![tactic(auto)]
 
-ghost use Rattle.std.specs.Prelude.{◌≡◌, length};
+ghost use Rattle.std.specs.Prelude.{◌≡◌, length, get_or};
 ghost use Rattle.std.proofs.lemmas.List.Edits.{sets};
-ghost use Rattle.patterns.specs.Patterns.{word_at};
-ghost use Rattle.records.specs.Words.{float_in, signed_at, control_in, request_at, gains_in, set2_if, command_in, tick_in, settings_of_fields, answer_words, seven_of};
+ghost use Rattle.records.specs.Words.{signed_at, control_in, request_at, gains_in, set2_if, command_in, tick_in, settings_of_fields, answer_words, seven_of};
 
 use answers::Answer;
 use commands::Command;
 use hybrid::Hybrid;
+use legs::events::Switches;
 use settings::Settings;
 use ticks::Tick;
 use torque::LimitSet;
 
-// A word; 0 past the last.
-fn word(words: &[u32], at: usize) -> u32
-    ensures { result ≡ word_at words.now at }
+// A word or a float of a list; past its last, the zero that is given.
+// Kept: a test and no `get`, for the module's build (docs/MODULE.md, module/retarget): its code may hold no reference that is read as a number,
+// and `get` is built of one.
+fn item<T: Copy>(list: &[T], at: usize, zero: T) -> T
+    ensures { result ≡ get_or list.now at zero }
 {
-    if at < words.len() { words[at] } else { 0 }
-}
-
-// A float; 0 past the last.
-fn float(floats: &[f32], at: usize) -> f32
-    ensures { result ≡ float_in floats.now at }
-{
-    if at < floats.len() { floats[at] } else { 0.0 }
+    if at < list.len() { list[at] } else { zero }
 }
 
 // A word read as signed.
 fn signed(words: &[u32], at: usize) -> i32
     ensures { result ≡ signed_at words.now at }
 {
-    patterns::signed(word(words, at))
+    patterns::signed(item(words, at, 0))
 }
 
 // A control word; one that needs more than 16 bits is none, and is taken as 0: disable voltage.
 fn control_word(word: u32) -> u16
     ensures { result ≡ control_in word }
 {
-    if word < 0x10000 { word as u16 } else { 0 }
+    u16::try_from(word).unwrap_or(0)
 }
 
 // A torque request, held within 16 bits.
+#[tactic(auto, using(crate::proofs::Numbers::held_fits))]
 fn request(words: &[u32], at: usize) -> i16
     ensures { result ≡ request_at words.now at }
 {
@@ -60,25 +56,27 @@ fn limit_set(second: bool) -> LimitSet
     }
 }
 
+#[tactic(auto, unfolding(crate::specs::Words::gains_in))]
 fn gains(f: &[f32]) -> Hybrid
     ensures { result ≡ gains_in f.now }
 {
     Hybrid {
-        kp: float(f, 0),
-        kd: float(f, 1),
-        pd: float(f, 2),
-        vd: float(f, 3),
-        t: float(f, 4),
-        p: float(f, 5),
-        v: float(f, 6),
+        kp: item(f, 0, 0.0),
+        kd: item(f, 1, 0.0),
+        pd: item(f, 2, 0.0),
+        vd: item(f, 3, 0.0),
+        t: item(f, 4, 0.0),
+        p: item(f, 5, 0.0),
+        v: item(f, 6, 0.0),
     }
 }
 
+// Kept: the kinds of commands are numbers here, since C hands them in, and every number is one (`command_in`).
+#[tactic(auto, unfolding(crate::specs::Words::command_in))]
 fn command(e: &[u32], f: &[f32]) -> Command
     ensures { result ≡ command_in e.now f.now }
 {
-    let kind = word(e, 0);
-    match kind {
+    match item(e, 0, 0) {
         1 => Command::Hybrid(gains(f)),
         2 => Command::Homing(request(e, 5)),
         3 => Command::Position(signed(e, 6), request(e, 5)),
@@ -88,16 +86,17 @@ fn command(e: &[u32], f: &[f32]) -> Command
 }
 
 // The tick of an event. Its command comes last, so that what looks at it next is not a branch of its own.
+#[tactic(auto, unfolding(crate::specs::Words::tick_in))]
 pub fn tick(e: &[u32], f: &[f32]) -> Tick
     ensures { result ≡ tick_in e.now f.now }
 {
-    let inputs = (word(e, 3) % 0x10000) as u16;
-    let control = control_word(word(e, 1));
+    let inputs = (item(e, 3, 0) % 0x10000) as u16;
+    let control = control_word(item(e, 1, 0));
     let position = signed(e, 2);
-    let switches = patterns::switches(inputs);
+    let switches = Switches::from(inputs);
     let still = counts::bit(inputs, 4);
     let set = limit_set(counts::bit(inputs, 5));
-    let alarm = word(e, 4);
+    let alarm = item(e, 4, 0);
     let command = command(e, f);
     Tick {
         control,
@@ -111,6 +110,7 @@ pub fn tick(e: &[u32], f: &[f32]) -> Tick
 }
 
 // An answer's seven words.
+#[tactic(auto, unfolding(crate::specs::Words::answer_words))]
 fn answer_words(a: Answer) -> [u32; 7]
     ensures { result ≡ answer_words a }
 {
@@ -134,7 +134,8 @@ fn answer_space(out: [u32; 7])
     ensures { length out ≡ 7 }
 {}
 
-// One by one: a block would be copied byte by byte on a core that asks for alignment.
+// Kept: one by one, for a rule of the project (speed on the smallest cores). A loop or a copied slice becomes a block copy, which a core that
+// asks for alignment makes byte by byte.
 fn put_words(out: &mut [u32; 7], w: [u32; 7])
     ensures { out.new ≡ sets out.old 0 (seven_of w) }
 {
@@ -156,25 +157,26 @@ pub fn put_answer(out: &mut [u32; 7], a: Answer)
 }
 
 // Settings from their sixteen fields, in the order of the struct.
+#[tactic(auto, unfolding(crate::specs::Words::settings_of_fields))]
 pub fn settings_of_fields(f: &[u32]) -> Settings
     ensures { result ≡ settings_of_fields f.now }
 {
     Settings {
-        method: word(f, 0),
-        fast: word(f, 1),
-        slow: word(f, 2),
+        method: item(f, 0, 0),
+        fast: item(f, 1, 0),
+        slow: item(f, 2, 0),
         offset: signed(f, 3),
-        numerator: word(f, 4),
-        denominator: word(f, 5),
+        numerator: item(f, 4, 0),
+        denominator: item(f, 5, 0),
         lower: signed(f, 6),
         upper: signed(f, 7),
-        maximum: word(f, 8),
-        positive1: word(f, 9),
-        negative1: word(f, 10),
-        positive2: word(f, 11),
-        negative2: word(f, 12),
-        option: word(f, 13),
-        rated: word(f, 14),
-        homing: word(f, 15),
+        maximum: item(f, 8, 0),
+        positive1: item(f, 9, 0),
+        negative1: item(f, 10, 0),
+        positive2: item(f, 11, 0),
+        negative2: item(f, 12, 0),
+        option: item(f, 13, 0),
+        rated: item(f, 14, 0),
+        homing: item(f, 15, 0),
     }
 }

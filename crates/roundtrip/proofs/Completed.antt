@@ -2,6 +2,7 @@
 -- One way: these words read back from whatever was pending. The other: what is pending is always the run of words that came last, from a
 -- start word on, each in its field.
 -- Assumes nothing.
+use Rattle.std.specs.Prelude.{Ok}
 use Prim.Native.Nat.{ℕ, zero, suc, ◌+◌, ◌-◌, ◌^◌, ◌<◌, ◌≤◌}
 use mathlib.Core.Path.{◌≡◌, refl, sym, ap, ◌∙◌, subst}
 use mathlib.Core.Bool.{Bool, true, false, cond}
@@ -12,7 +13,6 @@ use lib.Dec.{eqb}
 use lib.ListN.{length, take, replicate, length-append, length-replicate}
 use lib.Seq.{append_snoc, take_at}
 use Rattle.settings.specs.declared.Settings.{Settings}
-use Rattle.settings.specs.declared.Verdict.TheVariants.{Accepted}
 use Rattle.layouts.specs.Layout.{is_layout, size, layout_holds}
 use Rattle.checks.specs.Check.{limits_verdict, sendable}
 use Rattle.checks.proofs.Numbers.{acceptable-of}
@@ -226,7 +226,7 @@ module _ (xs : List ℕ) (n : length xs ≡ size (layout_of xs)) (b : Below xs) 
       let t : sent l (settings_of d) ≡ xs = ap (take (size l)) e ∙ take_at xs (replicate (15 - length xs) 0) (size l) n in
       rw (t, checksum-padded xs (15 - length xs))
 
-  sound-here : limits_verdict (settings_of d) ≡ Accepted → sendable l (settings_of d) ≡ true
+  sound-here : limits_verdict (settings_of d) ≡ Ok tt → sendable l (settings_of d) ≡ true
   sound-here v =
       let c = carries d sheet in
       sendable-of l (settings_of d)
@@ -244,7 +244,7 @@ completed s ws w o = go (run ws) (read_by (pending_after ws) w)
     clash t n e = absurd (n (sym o ∙ e))
 
     end : (r : Run ws) → size (layout_in (pending_after ws)) ≤ (pending_after ws).count → w ≡ packed 15 (checksum_of (pending_after ws).values)
-        → limits_verdict (settings_of (pending_after ws).values) ≡ Accepted → s ≡ settings_of (pending_after ws).values
+        → limits_verdict (settings_of (pending_after ws).values) ≡ Ok tt → s ≡ settings_of (pending_after ws).values
         → EndsIn (layout_in (pending_after ws)) s (ws ++ w ∷ [])
     end r h i v q =
         let xs = r.xs in

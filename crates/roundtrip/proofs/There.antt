@@ -1,6 +1,7 @@
 -- The words of settings in a layout that holds them are read into those settings, whatever was pending: the start word forgets it, each value
 -- stays in its place, and what the layout does not send is 0.
 -- Assumes nothing.
+use Rattle.std.specs.Prelude.{Ok}
 use Prim.Native.Nat.{ℕ, suc, ◌+◌, ◌-◌, ◌^◌, ◌<◌, ◌≤◌}
 use mathlib.Core.Path.{◌≡◌, refl, sym, ap, ◌∙◌, subst}
 use mathlib.Core.Bool.{true}
@@ -11,7 +12,6 @@ use lib.Dec.{leb}
 use lib.ListN.{length, length-append}
 use lib.Seq.{append_snoc}
 use Rattle.settings.specs.declared.Settings.{Settings}
-use Rattle.settings.specs.declared.Verdict.TheVariants.{Accepted}
 use Rattle.settings.proofs.Within.{both}
 use Rattle.layouts.specs.Layout.{is_layout, size}
 use Rattle.checks.specs.Check.{limits_verdict, sendable}
@@ -53,7 +53,7 @@ step p k x c z h b f =
     read-field p (packed k x) (kind ∙ due) (λ e. omega arith) (λ e. omega arith) ∙ rw (kind, value, f)
 
 -- the end word
-close : (p : Pending) → size (layout_in p) ≤ p.count → limits_verdict (settings_of p.values) ≡ Accepted
+close : (p : Pending) → size (layout_in p) ≤ p.count → limits_verdict (settings_of p.values) ≡ Ok tt
     → read_of p (packed 15 (checksum_of p.values)) ≡ complete (settings_of p.values)
 unfolding end_read end_verdict checksum_of
 close p h l =
@@ -73,7 +73,7 @@ abbrev ending : ℕ → List ℕ → List ℕ → List ℕ
 ending k ys xs = words_from k ys ++ packed 15 (checksum_of (pending_of xs).values) ∷ []
 
 reads : (l : ℕ) (xs ys : List ℕ) (k : ℕ) → k ≡ suc (length xs) → k + length ys ≡ size l → Below ys → InFields l k ys
-    → limits_verdict (settings_of (pending_of (l ∷ (xs ++ ys))).values) ≡ Accepted
+    → limits_verdict (settings_of (pending_of (l ∷ (xs ++ ys))).values) ≡ Ok tt
     → ReadInto (pending_of (l ∷ xs)) (ending k ys (l ∷ (xs ++ ys))) (settings_of (pending_of (l ∷ (xs ++ ys))).values)
 unfolding words_from
 reads l xs [] k q n b f v =

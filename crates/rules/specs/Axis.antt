@@ -1,7 +1,7 @@
 -- An axis: the settings in force, the pending ones, and its motion. The code keeps it in lent words (`cells/specs/Cells.antt`, `axis_in`).
 -- Assumes nothing.
 use Rattle.settings.specs.declared.Settings.{Settings}
-use Rattle.settings.specs.declared.Verdict.{Verdict}
+use Rattle.settings.specs.Refusal.{Verdict}
 use Rattle.reader.specs.Pending.{Pending}
 use Rattle.reader.specs.Read.{empty_pending}
 use Rattle.ticks.specs.Motion.{Motion, fresh_motion}

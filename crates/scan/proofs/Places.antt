@@ -1,22 +1,15 @@
--- The first place of a byte, one byte at a time.
+-- The first place of a byte is the library's `position`.
 -- Assumes nothing.
-use Prim.Native.Nat.{ℕ, suc, ◌<◌, ◌≤◌}
-use mathlib.Core.List.{List}
-use mathlib.Core.Path.{◌≡◌}
-use borrow.Author.Tests.{eq-eqb, ne_eqb}
-use lib.ListN.{length, drop, get_or, drop_of_length-le}
-use lib.Seq.{drop-cons}
+use Rattle.std.proofs.Common.{◌≡◌, ℕ, ◌+◌, Bool, true, false, cond, eqb, List, refl, arith}
+use Rattle.std.specs.List.{position_or_len}
+use Rattle.std.proofs.lemmas.List.Recursion.{is_position_or_len}
 use Rattle.scan.specs.Bytes.{index_of, index_after}
 
-pub here : (byte : ℕ) (text : List ℕ) (i : ℕ) → i < length text → get_or text i 0 ≡ byte → index_of byte (drop i text) ≡ 0
-unfolding index_of index_after
-here byte text i h e = rw (drop-cons text i 0 h, eq-eqb (get_or text i 0) byte e)
+step : (t : Bool) (n : ℕ) → index_after t n ≡ cond t 0 (1 + n)
+unfolding index_after
+step true n = refl
+step false n = omega arith
 
-pub further : (byte : ℕ) (text : List ℕ) (i : ℕ) → i < length text → (get_or text i 0 ≡ byte → ⊥)
-    → index_of byte (drop i text) ≡ suc (index_of byte (drop (suc i) text))
-unfolding index_of index_after
-further byte text i h e = rw (drop-cons text i 0 h, ne_eqb (get_or text i 0) byte e)
-
-pub none : (byte : ℕ) (text : List ℕ) (i : ℕ) → length text ≤ i → index_of byte (drop i text) ≡ 0
+pub library : (byte : ℕ) (xs : List ℕ) → index_of byte xs ≡ position_or_len (λ b. eqb b byte) xs
 unfolding index_of
-none byte text i h = rw (drop_of_length-le text h)
+library byte xs = is_position_or_len (index_of byte) (λ b. eqb b byte) refl (λ x xs. step (eqb x byte) (index_of byte xs)) xs

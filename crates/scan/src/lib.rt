@@ -1,20 +1,22 @@
 // A search for a byte in a text.
 #![tactic(auto)]
 
-ghost use Rattle.std.specs.Prelude.{◌≡◌, ◌+◌, ◌≤◌, drop, length};
-ghost use Rattle.scan.specs.Bytes.{index_of};
+ghost use Rattle.std.specs.Prelude.{◌≡◌};
+ghost use Rattle.scan.specs.Bytes.{first_of, place_of, PlaceOf};
 
-// The first place from `from` on that holds the byte, or the text's end where none does.
-pub fn find(text: &[u8], from: usize, byte: u8) -> usize
-    ensures value { result ≡ from + index_of byte (drop from text.now) }
-    ensures upper_bound { from ≤ length text.now → result ≤ length text.now }
+// The first place that holds the byte.
+fn first(text: &[u8], byte: u8) -> Option<usize>
+    ensures { result ≡ first_of byte text.now }
 {
-    let mut i = from;
-    while i < text.len() {
-        if text[i] == byte {
-            return i;
-        }
-        i += 1;
-    }
-    i
+    text.iter().position(|b| *b == byte)
+}
+
+// The first place from `from` on that holds the byte.
+#[tactic(auto, unfolding(crate::specs::Bytes::place_of))]
+pub fn find(text: &[u8], from: usize, byte: u8) -> Option<usize>
+    ensures value { result ≡ place_of byte from text.now }
+    ensures place { PlaceOf byte from text.now result }
+{
+    let place = first(text.get(from..)?, byte)?;
+    Some(from + place)
 }

@@ -1,11 +1,10 @@
 -- Every answer fits its page: each part of a text has a bound, and the bounds add up.
 -- Assumes nothing.
+use Rattle.std.specs.Prelude.{Err, Ok}
 use Rattle.std.proofs.Common.{◌≡◌, ℕ, ◌*◌, ◌≤◌, min, Bool, true, false, not, eqb, List, [], ◌∷◌, length, drop, ℤ, refl, arith, length-append, length-drop, ltb-false}
 use lib.ListN.{length-replicate}
 use Rattle.settings.specs.declared.Settings.{Settings}
-use Rattle.settings.specs.declared.Verdict.{Verdict}
-use Rattle.settings.specs.declared.Verdict.TheVariants.{Accepted, Refused}
-use Rattle.settings.specs.Refusal.{verdict_number}
+use Rattle.settings.specs.Refusal.{verdict_number, Verdict}
 use Rattle.layouts.specs.Layout.{is_layout}
 use Rattle.answers.specs.declared.Answer.{Answer}
 use Rattle.words.specs.Encode.{words_of}
@@ -77,8 +76,8 @@ unfolding write_verdict
 kept layout s buffer = go (not (is_layout layout)) (buffer_too_short layout buffer) refl refl
   where
     filled : (v : Verdict) → needed layout ≤ length buffer → length (buffer_after v layout s buffer) ≡ length buffer
-    filled Accepted h = omega (arith, length-append (words_of layout s) (drop (needed layout) buffer), words_size layout s, length-drop (needed layout) buffer)
-    filled (Refused r) h = refl
+    filled (Ok tt) h = omega (arith, length-append (words_of layout s) (drop (needed layout) buffer), words_size layout s, length-drop (needed layout) buffer)
+    filled (Err r) h = refl
 
     go : (u t : Bool) → not (is_layout layout) ≡ u → buffer_too_short layout buffer ≡ t → length (written layout s buffer) ≡ length buffer
     go true t d e = rw d

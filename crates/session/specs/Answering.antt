@@ -15,13 +15,13 @@ use Rattle.lent.specs.Lent.{written_text}
 use Rattle.lines.specs.declared.Line.{Line}
 use Rattle.lines.specs.declared.Line.TheVariants as line
 use Rattle.lines.specs.declared.Trial.{Trial}
-use Rattle.page.specs.Page.{Printed}
+use Rattle.page.specs.Page.{printed}
+use Rattle.page.specs.Written.{Written}
 use Rattle.complaints.specs.Texts.{unreadable_text, long_text}
 use Rattle.printer.specs.Texts.{fresh_text, settings_text, rail_text, word_text, tick_text, run_text}
 use Rattle.settings.specs.declared.Settings.{Settings}
 use Rattle.settings.specs.Refusal.{verdict_number}
 use Rattle.tokens.specs.Ascii.{ascii}
-use Rattle.session.specs.declared.Turn.{Turn}
 use Rattle.session.specs.declared.Session.{Session}
 
 -- an axis, the settings and the rail of later runs, and how many lines have come so far
@@ -117,8 +117,8 @@ text_of s (line.Picture t) = run_text (ascii "picture ") (trace_in s t).outcome 
 text_of s (line.Unreadable t) = unreadable_text s.lines t
 
 -- the session then means s, and the text is printed on the page
-abbrev pub Answers : List ℕ → List ℕ → Turn → Conversation → List ℕ → Type 0
-Answers page page' r s text = (meant r.session ≡ s) × Printed page 0 text page' r.length
+abbrev pub Answers : Session → Written → Written → Conversation → List ℕ → Type 0
+Answers after page page' s text = (meant after ≡ s) × (page' ≡ printed page text)
 
 -- every answer fits a page of 1024 bytes
 abbrev pub Fits : Type 0

@@ -4,15 +4,15 @@
 ghost use Rattle.std.specs.Prelude.{◌≡◌};
 ghost use Rattle.lines.specs.Lines.{line_of};
 ghost use Rattle.complaints.specs.Texts.{long_text};
-ghost use Rattle.page.specs.Page.{Printed};
+ghost use Rattle.page.specs.Page.{seen, printed};
 ghost use Rattle.session.specs.Answering.{meant, zero_settings, zero_rail, fresh_conversation, counted, drawn_text, conversation_after, text_of, Answers};
 
 use carriage::Rail;
 use cells::Lent;
-use lines::{Line, Trial};
+use lines::Line;
+use page::Page;
 use settings::Settings;
 use simulator::Trace;
-use ticks::Tick;
 
 #[derive(Clone, Copy)]
 pub struct Session {
@@ -23,13 +23,6 @@ pub struct Session {
     pub rail: Rail,
     // Lines so far.
     pub lines: u64,
-}
-
-// A session after a line, and the length of the answer on the page; 0 where the line gets none.
-#[derive(Clone, Copy)]
-pub struct Turn {
-    pub session: Session,
-    pub length: usize,
 }
 
 fn zero_settings() -> Settings
@@ -68,14 +61,12 @@ fn zero_rail() -> Rail
 }
 
 // The picture of a run that is not refused.
-fn drawn(out: &mut [u8], at: usize, rail: Rail, start: i32, trace: Trace) -> usize
-    ensures { Printed out.old at (drawn_text rail start trace) out.new result }
+#[tactic(auto, using(page::proofs::Printing::printed_nothing))]
+fn drawn(page: &mut Page, rail: Rail, start: i32, trace: Trace)
+    ensures { seen page.new ≡ printed (seen page.old) (drawn_text rail start trace) }
 {
-    let outcome = trace.outcome;
-    if outcome.number == 0 {
-        drawing::picture(out, at, rail, start, trace)
-    } else {
-        at
+    if trace.outcome.number == 0 {
+        drawing::picture(page, rail, start, trace);
     }
 }
 
@@ -93,133 +84,66 @@ impl Session {
         }
     }
 
-    fn count_line(mut self) -> Session
-        ensures { meant result ≡ counted (meant self) }
+    fn count_line(&mut self)
+        ensures { meant self.new ≡ counted (meant self.old) }
     {
-        self.lines = std::num::wrapping_add_u64(self.lines, 1);
-        self
+        self.lines = self.lines.wrapping_add(1);
     }
 
-    fn word(mut self, word: u32, out: &mut [u8]) -> Turn
-        ensures { Answers out.old out.new result (conversation_after (meant self) (Line.Word word)) (text_of (meant self) (Line.Word word)) }
-    {
-        let verdict = axis::word(&mut self.axis, word);
-        let length = printer::word(out, settings::verdict_number(verdict));
-        Turn {
-            session: self,
-            length,
-        }
-    }
-
-    fn tick(mut self, tick: Tick, out: &mut [u8]) -> Turn
-        ensures { Answers out.old out.new result (conversation_after (meant self) (Line.Tick tick)) (text_of (meant self) (Line.Tick tick)) }
-    {
-        let answer = axis::tick(&mut self.axis, tick);
-        let length = printer::tick(out, answer);
-        Turn {
-            session: self,
-            length,
-        }
-    }
-
-    fn run(self, trial: Trial, out: &mut [u8]) -> Turn
-        ensures { Answers out.old out.new result (conversation_after (meant self) (Line.Run trial)) (text_of (meant self) (Line.Run trial)) }
-    {
-        let outcome = simulator::run(self.rail, self.settings, trial.start, trial.ticks);
-        let length = printer::run(out, b"run ", outcome);
-        Turn {
-            session: self,
-            length,
-        }
-    }
-
-    fn picture(self, trial: Trial, out: &mut [u8]) -> Turn
-        ensures { Answers out.old out.new result (conversation_after (meant self) (Line.Picture trial)) (text_of (meant self) (Line.Picture trial)) }
-    {
-        let trace = simulator::follow(self.rail, self.settings, trial.start, trial.ticks);
-        let outcome = trace.outcome;
-        let at = printer::run(out, b"picture ", outcome);
-        let length = drawn(out, at, self.rail, trial.start, trace);
-        Turn {
-            session: self,
-            length,
-        }
-    }
-
-    fn act(mut self, line: Line, out: &mut [u8]) -> Turn
-        ensures { Answers out.old out.new result (conversation_after (meant self) line) (text_of (meant self) line) }
+    #[tactic(auto, using(page::proofs::Printing::printed_nothing, page::proofs::Printing::printed_then))]
+    fn act(&mut self, line: Line, page: &mut Page)
+        ensures { Answers self.new (seen page.old) (seen page.new) (conversation_after (meant self.old) line) (text_of (meant self.old) line) }
     {
         match line {
-            Line::Blank => Turn {
-                session: self,
-                length: 0,
-            },
+            Line::Blank => {}
             Line::Fresh => {
                 axis::fresh(&mut self.axis);
-                let length = printer::fresh(out);
-                Turn {
-                    session: self,
-                    length,
-                }
+                page.text(b"fresh\n");
             }
-            Line::Word(word) => self.word(word, out),
-            Line::Tick(tick) => self.tick(tick, out),
-            Line::Sheet(writing) => {
-                let length = lent::write(b"sheet ", writing, out);
-                Turn {
-                    session: self,
-                    length,
-                }
+            Line::Word(word) => {
+                let verdict = axis::word(&mut self.axis, word);
+                printer::word(page, settings::verdict_number(verdict));
             }
-            Line::Layout(writing) => {
-                let length = lent::write(b"layout ", writing, out);
-                Turn {
-                    session: self,
-                    length,
-                }
+            Line::Tick(tick) => {
+                let answer = axis::tick(&mut self.axis, tick);
+                printer::tick(page, answer);
             }
+            Line::Sheet(writing) => lent::write(page, b"sheet ", writing),
+            Line::Layout(writing) => lent::write(page, b"layout ", writing),
             Line::Settings(settings) => {
                 self.settings = settings;
-                let length = printer::settings(out);
-                Turn {
-                    session: self,
-                    length,
-                }
+                page.text(b"settings\n");
             }
             Line::Rail(rail) => {
                 self.rail = rail;
-                let length = printer::rail(out);
-                Turn {
-                    session: self,
-                    length,
-                }
+                page.text(b"rail\n");
             }
-            Line::Run(trial) => self.run(trial, out),
-            Line::Picture(trial) => self.picture(trial, out),
-            Line::Unreadable(trouble) => {
-                let length = complaints::unreadable(out, self.lines, trouble);
-                Turn {
-                    session: self,
-                    length,
-                }
+            Line::Run(trial) => {
+                let outcome = simulator::run(self.rail, self.settings, trial.start, trial.ticks);
+                printer::run(page, b"run ", outcome);
             }
+            Line::Picture(trial) => {
+                let trace = simulator::follow(self.rail, self.settings, trial.start, trial.ticks);
+                printer::run(page, b"picture ", trace.outcome);
+                drawn(page, self.rail, trial.start, trace);
+            }
+            Line::Unreadable(trouble) => complaints::unreadable(page, self.lines, trouble),
         }
     }
 
     // A line, without its end, and its answer. One beyond 255 bytes is for `long_line`.
-    pub fn line(self, line: &[u8], out: &mut [u8]) -> Turn
-        ensures { Answers out.old out.new result (conversation_after (counted (meant self)) (line_of line.now)) (text_of (counted (meant self)) (line_of line.now)) }
+    pub fn line(&mut self, line: &[u8], page: &mut Page)
+        ensures { Answers self.new (seen page.old) (seen page.new) (conversation_after (counted (meant self.old)) (line_of line.now)) (text_of (counted (meant self.old)) (line_of line.now)) }
     {
-        let session = self.count_line();
-        session.act(lines::read(line), out)
+        self.count_line();
+        self.act(lines::read(line), page);
     }
 
     // A line of more than 255 bytes.
-    pub fn long_line(self, out: &mut [u8]) -> Turn
-        ensures { Answers out.old out.new result (counted (meant self)) (long_text (counted (meant self)).lines) }
+    pub fn long_line(&mut self, page: &mut Page)
+        ensures { Answers self.new (seen page.old) (seen page.new) (counted (meant self.old)) (long_text (counted (meant self.old)).lines) }
     {
-        let session = self.count_line();
-        let length = complaints::too_long(out, session.lines);
-        Turn { session, length }
+        self.count_line();
+        complaints::too_long(page, self.lines);
     }
 }

@@ -1,10 +1,12 @@
 -- 01, "Refused words, ticks and buffers", and 02: the number of each refusal, with the trade word that they have for it.
 -- Assumes nothing.
-use Rattle.std.specs.Prelude.{ℕ, Bool, cond, List, [], ◌∷◌}
+use Rattle.std.specs.Prelude.{ℕ, Bool, cond, List, [], ◌∷◌, Result, Ok, Err}
 use Rattle.settings.specs.declared.Refusal.{Refusal}
 use Rattle.settings.specs.declared.Refusal.TheVariants.{OutOfSequence, UnknownLayout, OutOfRange, ChecksumMismatch, LimitsCrossed, OutOfReach, DriveActive, NoSettings, BufferTooShort, LongValue, HomingTorqueLost, RailUnfit}
-use Rattle.settings.specs.declared.Verdict.{Verdict}
-use Rattle.settings.specs.declared.Verdict.TheVariants.{Accepted, Refused}
+
+-- what a settings word, settings or a lent buffer meets: it is accepted, or refused for a reason
+abbrev pub Verdict : Type 0
+Verdict = Result Unit Refusal
 
 abbrev pub number_of : Refusal → ℕ
 number_of OutOfSequence = 1  -- out of turn
@@ -22,8 +24,8 @@ number_of RailUnfit = 12  -- rail unfit
 
 -- "an accepted word, a filled buffer and a tick not refused carry 0"
 abbrev pub verdict_number : Verdict → ℕ
-verdict_number Accepted = 0
-verdict_number (Refused r) = number_of r
+verdict_number (Ok tt) = 0
+verdict_number (Err r) = number_of r
 
 -- a row of the table: whether its case holds, and its number
 pub record Test : Type 0 where

@@ -4,11 +4,13 @@
 #![tactic(auto)]
 
 ghost use Rattle.std.specs.Prelude.{◌≡◌};
-ghost use Rattle.settings.specs.Refusal.{number_of, verdict_number};
+ghost use Rattle.settings.specs.Refusal.{verdict_number};
 
 pub mod fields;
+mod numbers;
 
 // Settings of one axis, by CiA 402's names. Positions are in user units, torques in thousandths of the rated torque.
+// Kept: method and option are numbers, since every value of every field is answered (`checks::check`), and C hands the fields in.
 #[derive(Clone, Copy)]
 pub struct Settings {
     // Homing method.
@@ -39,55 +41,29 @@ pub struct Settings {
     pub homing: u32,
 }
 
-// Why a settings word, settings, a tick, a lent buffer or a run on a rail is refused (01: refused words, ticks and buffers; 02).
-#[derive(Clone, Copy)]
+// Why a settings word, settings, a tick, a lent buffer or a run on a rail is refused, with its number (01: refused words, ticks and buffers; 02).
+#[derive(Clone, Copy, PartialEq, Eq)]
 pub enum Refusal {
-    OutOfSequence,
-    UnknownLayout,
-    OutOfRange,
-    ChecksumMismatch,
-    LimitsCrossed,
-    OutOfReach,
-    DriveActive,
-    NoSettings,
-    BufferTooShort,
-    LongValue,
-    HomingTorqueLost,
-    RailUnfit,
-}
-
-#[derive(Clone, Copy)]
-pub enum Verdict {
-    Accepted,
-    Refused(Refusal),
-}
-
-// The refusal's number in 01 and 02.
-pub fn number(refusal: Refusal) -> u32
-    ensures { result ≡ number_of refusal }
-{
-    match refusal {
-        Refusal::OutOfSequence => 1,
-        Refusal::UnknownLayout => 2,
-        Refusal::OutOfRange => 3,
-        Refusal::ChecksumMismatch => 4,
-        Refusal::LimitsCrossed => 5,
-        Refusal::OutOfReach => 6,
-        Refusal::DriveActive => 7,
-        Refusal::NoSettings => 8,
-        Refusal::BufferTooShort => 9,
-        Refusal::LongValue => 10,
-        Refusal::HomingTorqueLost => 11,
-        Refusal::RailUnfit => 12,
-    }
+    OutOfSequence = 1,
+    UnknownLayout = 2,
+    OutOfRange = 3,
+    ChecksumMismatch = 4,
+    LimitsCrossed = 5,
+    OutOfReach = 6,
+    DriveActive = 7,
+    NoSettings = 8,
+    BufferTooShort = 9,
+    LongValue = 10,
+    HomingTorqueLost = 11,
+    RailUnfit = 12,
 }
 
 // The verdict's number: 0 where accepted.
-pub fn verdict_number(verdict: Verdict) -> u32
+pub fn verdict_number(verdict: Result<(), Refusal>) -> u32
     ensures { result ≡ verdict_number verdict }
 {
     match verdict {
-        Verdict::Accepted => 0,
-        Verdict::Refused(refusal) => number(refusal),
+        Ok(()) => 0,
+        Err(refusal) => refusal.into(),
     }
 }

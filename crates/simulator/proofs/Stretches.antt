@@ -16,7 +16,9 @@ use Rattle.carriage.specs.declared.Rail.{Rail}
 use Rattle.carriage.specs.Rail.{cells_of, stride_of}
 use Rattle.simulator.specs.declared.Outcome.{Outcome}
 use Rattle.simulator.specs.Run.{phase_on, way_of, next_cell, next_axis, stopped, stop_of, ran, one_more, ride}
-use Rattle.simulator.specs.Stretch.{goes_on, Stretch, here, tick_more, stretch_in, stretch_of}
+use mir.Syntax.{w64}
+use mir.Val.{SFits}
+use Rattle.simulator.specs.Stretch.{StaysNear, goes_on, Stretch, here, tick_more, stretch_in, stretch_of}
 use Rattle.simulator.proofs.Phases.{same-goes, goes-unstopped, stopped-stays}
 
 abbrev pub led_to : ℕ → ℤ → Axis → Stretch
@@ -31,13 +33,13 @@ later d o = ran (d + o.ticks) o.stop
 
 -- a stretch, tick by tick
 module _ (p : Phase) (r : Rail) (a : Axis) (x : ℤ) where
-  pub one-tick : (n d : ℕ) → d < n → goes_on p (phase_on a) ≡ true
-      → further d (stretch_in p r (n - d) a x) ≡ further (d + 1) (stretch_in p r (n - (d + 1)) (next_axis r a x) (next_cell r a x))
-  one-tick n d h g =
-      let k = n - (d + 1) in
-      let t = stretch_in p r k (next_axis r a x) (next_cell r a x) in
-      let e : n - d ≡ suc k = omega arith in
-      rw (e, g) (ap (λ (m : ℕ). led_to m t.cell t.axis) (omega arith))
+  pub one-tick : (n k : ℕ) → 0 < k → k ≤ n → goes_on p (phase_on a) ≡ true
+      → further (n - k) (stretch_in p r k a x) ≡ further (n - (k - 1)) (stretch_in p r (k - 1) (next_axis r a x) (next_cell r a x))
+  one-tick n k l h g =
+      let t = stretch_in p r (k - 1) (next_axis r a x) (next_cell r a x) in
+      let e : k ≡ suc (k - 1) = omega arith in
+      let at : further (n - k) (stretch_in p r (suc (k - 1)) a x) ≡ further (n - (k - 1)) t = rw g (ap (λ (m : ℕ). led_to m t.cell t.axis) (omega arith)) in
+      ap (λ (m : ℕ). further (n - k) (stretch_in p r m a x)) e ∙ at
 
   pub given_out : (k d : ℕ) → k ≡ 0 → further d (stretch_in p r k a x) ≡ led_to d x a
   given_out k d e = let z : d + 0 ≡ d = omega arith in rw (e, z)
@@ -71,6 +73,14 @@ module _ (r : Rail) (fast : r.fast ≤ 2 ^ 20) (slow : r.slow ≤ 2 ^ 20) where
 
   pub tick-near : (o : Option Leg) (x : ℤ) → mag (x +ℤ way_of r o) < mag x + 2 ^ 21
   tick-near o x = mag-add x (way_of r o) (mag x + 2 ^ 21) (omega (arith, way-small o))
+
+-- a trip that stays near does so after a tick, and its cell fits 64 bits
+module _ {r : Rail} {n : ℕ} {x : ℤ} (h : StaysNear r n x) (l : 0 < n) (o : Option Leg) where
+  pub move-fits : SFits w64 (x +ℤ way_of r o)
+  move-fits = record { sfits = mag-add x (way_of r o) (2 ^ 63) (omega (arith, way-small r h.fast h.slow o, h.near)) }
+
+  pub move-near : StaysNear r (n - 1) (x +ℤ way_of r o)
+  move-near = record { fast = h.fast; slow = h.slow; near = omega (arith, tick-near r h.fast h.slow o x, h.near) }
 
 -- a run, stretch by stretch
 as-ran : (r : Rail) (n : ℕ) (a : Axis) (x : ℤ) → ride r n a x ≡ later 0 (ride r n a x)
@@ -133,23 +143,19 @@ pub run-stopped : (r : Rail) (k d : ℕ) (a : Axis) (x : ℤ) → stopped (phase
 run-stopped r zero d a x s = run_out r zero d a x refl
 run-stopped r (suc k) d a x s = let z : d + 0 ≡ d = omega arith in rw (s, z)
 
--- a run of n ticks, of which d are run, goes on with a stretch
-pub record Onward (r : Rail) (n d : ℕ) (a : Axis) (x : ℤ) (t : ℕ) (y : ℤ) (b : Axis) : Type 0 where
-  pub same : later d (ride r (n - d) a x) ≡ later (d + t) (ride r (n - (d + t)) b y)
-  pub few : t ≤ n - d
-  pub near : mag y ≤ mag x + t * 2 ^ 21
-  pub some : 0 < t
+-- a run of n ticks, of which k are left, goes on with a stretch that leaves j of them
+pub record Onward (r : Rail) (n k : ℕ) (a : Axis) (x : ℤ) (j : ℕ) (y : ℤ) (b : Axis) : Type 0 where
+  pub same : later (n - k) (ride r k a x) ≡ later (n - j) (ride r j b y)
+  pub some : j < k
 
-pub goes-onward : (r : Rail) (n d : ℕ) (a : Axis) (x : ℤ) (t : ℕ) (y : ℤ) (b : Axis) → r.fast ≤ 2 ^ 20 → r.slow ≤ 2 ^ 20 → d < n
-    → stopped (phase_on a) ≡ false → stretch_of r (n - d) a x ≡ led_to t y b → Onward r n d a x t y b
-goes-onward r n d a x t y b f g h s e =
-    let few : t ≤ n - d = rw e at (few-ticks r (phase_on a) (n - d) a x) in
-    let k : n - d - t ≡ n - (d + t) = omega arith in
-    let q = ride r (n - d - t) b y in
-    let z : d + (t + q.ticks) ≡ d + t + q.ticks = omega arith in
+pub goes-onward : (r : Rail) (n k : ℕ) (a : Axis) (x : ℤ) (j : ℕ) (y : ℤ) (b : Axis) → 0 < k → k ≤ n → j ≤ k
+    → stopped (phase_on a) ≡ false → stretch_of r k a x ≡ led_to (k - j) y b → Onward r n k a x j y b
+goes-onward r n k a x j y b l h f s e =
+    let i : k - (k - j) ≡ j = omega arith in
+    let q = ride r j b y in
+    let z : n - k + (k - j + q.ticks) ≡ n - j + q.ticks = omega arith in
+    let some : 0 < k - j = rw e at (some-tick r k a x l s) in
     record {
-      same = rw (← k) (ap (later d) (rw e at (rides-on r (phase_on a) (n - d) a x)) ∙ ap (λ (m : ℕ). ran m q.stop) z);
-      few = few;
-      near = rw e at (stretch-near r (phase_on a) f g (n - d) a x);
-      some = rw e at (some-tick r (n - d) a x (omega arith) s);
+      same = ap (later (n - k)) (rw i at (rw e at (rides-on r (phase_on a) k a x))) ∙ ap (λ (m : ℕ). ran m q.stop) z;
+      some = omega (arith, some);
     }

@@ -1,14 +1,12 @@
 -- 02, (vii): a run of an axis on a paper rail, and its result.
 -- Assumes nothing.
-use Rattle.std.specs.Prelude.{ℕ, zero, suc, ◌+◌, ◌-◌, Bool, true, false, cond, List, [], ◌∷◌, ℤ, pos, ◌+ℤ◌}
+use Rattle.std.specs.Prelude.{ℕ, zero, suc, ◌+◌, ◌-◌, Bool, true, false, cond, List, [], ◌∷◌, ℤ, pos, ◌+ℤ◌, Err, Ok}
 use Rattle.std.proofs.Math.Option.{Option, none, some}
 use Rattle.counts.specs.Wrap.{wrapped}
 use Rattle.settings.specs.declared.Settings.{Settings}
 use Rattle.settings.specs.declared.Refusal.{Refusal}
 use Rattle.settings.specs.declared.Refusal.TheVariants.{RailUnfit}
-use Rattle.settings.specs.declared.Verdict.{Verdict}
-use Rattle.settings.specs.declared.Verdict.TheVariants.{Accepted, Refused}
-use Rattle.settings.specs.Refusal.{number_of}
+use Rattle.settings.specs.Refusal.{number_of, Verdict}
 use Rattle.checks.specs.Check.{verdict_of}
 use Rattle.words.specs.Encode.{words_of}
 use Rattle.legs.specs.Legs.{Leg}
@@ -115,14 +113,14 @@ refused_run q = record { number = number_of q; ticks = 0; stop = stop.None }
 
 -- a sheet is "refused with 3, 5 or 6 as by the writer"; "12, rail unfit, [...] tested before the sheet"
 abbrev pub judged_by : Bool → Settings → Verdict
-judged_by fits s = cond fits (verdict_of s) (Refused RailUnfit)
+judged_by fits s = cond fits (verdict_of s) (Err RailUnfit)
 
 abbrev pub judged : Rail → Settings → ℤ → ℕ → Verdict
 judged r s start n = judged_by (rail_fits r start n) s
 
 abbrev pub ran_under : Verdict → Rail → Settings → ℤ → ℕ → Outcome
-ran_under (Refused q) r s start n = refused_run q
-ran_under Accepted r s start n = ridden r s start n
+ran_under (Err q) r s start n = refused_run q
+ran_under (Ok tt) r s start n = ridden r s start n
 
 unfoldable pub run_of : Rail → Settings → ℤ → ℕ → Outcome
 run_of r s start n = ran_under (judged r s start n) r s start n

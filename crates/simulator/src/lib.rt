@@ -1,23 +1,24 @@
 // Settings tried on a paper rail (02, (vii)): the axis is run by its own calls.
 #![tactic(auto)]
 
-ghost use Rattle.std.specs.Prelude.{◌≡◌, ◌-◌, ◌≤◌};
+ghost use Rattle.std.specs.Prelude.{◌≡◌, ◌-◌, ◌≤◌, Ok};
 ghost use Rattle.homing.specs.Phase.{phase_of};
 ghost use Rattle.cells.specs.Cells.{axis_in};
 ghost use Rattle.checks.specs.Check.{verdict_of};
 ghost use Rattle.homing.specs.Moving.{running_leg};
-ghost use Rattle.simulator.specs.Run.{tick_at, after, after_words, started_from, started, way_of, phase_on, stopped, stop_of, ran, ride, refused_run, judged_by, judged, run_of};
+ghost use Rattle.simulator.specs.Run.{tick_at, after, after_words, started_from, started, way_of, phase_on, stopped, stop_of, ran, ride, refused_run, judged, run_of};
 ghost use Rattle.simulator.specs.Stretch.{StaysNear, Stretches};
 ghost use Rattle.simulator.specs.Trace.{route_in, RunsLeg, legs_from, no_leg, trace_of};
 
 use carriage::Rail;
 use cells::Lent;
 use commands::Command;
-use settings::{Refusal, Settings, Verdict};
+use settings::{Refusal, Settings};
 use ticks::Tick;
 use torque::LimitSet;
 
 // What stopped a run; a refused one has none.
+// Kept: None is one of them, since theorems of arrival (`NotRun`) say what a refused run has.
 #[derive(Clone, Copy)]
 pub enum Stop {
     None,
@@ -28,7 +29,7 @@ pub enum Stop {
 
 #[derive(Clone, Copy)]
 pub struct Outcome {
-    // 0, or the refusal's.
+    // 0, or the refusal's. Kept: a number, for the theorems of arrival on it and on the zeros beside it.
     pub number: u32,
     // The ticks run, the start tick included.
     pub ticks: u32,
@@ -45,6 +46,8 @@ pub struct LegRun {
 }
 
 // A run and its legs, in their order: no route has more than four. A leg with no tick did not run.
+// Kept: four fields and no array, for the theorems `Whole` (arrival) and `PictureBounded` (drawing), which hold of every trace: of a list they would
+// need a premise on its length.
 #[derive(Clone, Copy)]
 pub struct Trace {
     pub outcome: Outcome,
@@ -54,11 +57,13 @@ pub struct Trace {
     pub fourth: LegRun,
 }
 
-// A stretch: its ticks, and the cell that it led to.
+// What is left of a run: the ticks to come, and the cell where the carriage stands, which stays well within 64 bits.
 #[derive(Clone, Copy)]
-struct Progress {
+struct Trip {
+    rail: Rail,
     ticks: u32,
     cell: i64,
+    ghost near: { StaysNear rail ticks cell },
 }
 
 fn tick_at(rail: Rail, control: u16, cell: i64) -> Tick
@@ -87,8 +92,8 @@ fn tick(axis: &mut Lent, rail: Rail, control: u16, cell: i64)
 fn take_words(axis: &mut Lent, words: [u32; 16])
     ensures { axis_in axis.new ≡ after_words (axis_in axis.old) words }
 {
-    for i in 0..16 {
-        axis::word(axis, words[i]);
+    for word in words {
+        let _ = axis::word(axis, word);
     }
 }
 
@@ -105,11 +110,11 @@ fn enable_and_start(axis: &mut Lent, rail: Rail, cell: i64)
 
 // A fresh axis takes the settings over, in layout 3, which holds all that are acceptable, and is started.
 fn begin(axis: &mut Lent, rail: Rail, s: Settings, start: i32)
-    requires { verdict_of s ≡ Verdict.Accepted }
+    requires { verdict_of s ≡ Ok tt }
     ensures { axis_in axis.new ≡ started rail s start }
 {
     let mut words = [0u32; 16];
-    writer::write(3, s, &mut words);
+    let _ = writer::write(3, s, &mut words);
     axis::fresh(axis);
     take_words(axis, words);
     enable_and_start(axis, rail, start as i64);
@@ -145,86 +150,79 @@ fn stride_in(rail: Rail, phase: u32) -> i64
     }
 }
 
-// Ticks for as long as one leg runs, at most so many of them. Its stride is read off once.
-fn stretch(axis: &mut Lent, rail: Rail, ticks: u32, cell: i64) -> Progress
-    requires { StaysNear rail ticks cell }
-    ensures { Stretches rail ticks (axis_in axis.old) cell result.ticks result.cell (axis_in axis.new) }
+// Ticks for as long as one leg runs. Its stride is read off once.
+fn stretch(axis: &mut Lent, trip: &mut Trip)
+    ensures same_rail { trip.new.rail ≡ trip.old.rail }
+    ensures fewer { trip.new.ticks ≤ trip.old.ticks }
+    ensures led { Stretches trip.old.rail trip.old.ticks (axis_in axis.old) trip.old.cell (trip.old.ticks - trip.new.ticks) trip.new.cell (axis_in axis.new) }
 {
-    let mut at = cell;
-    let mut done: u32 = 0;
     let phase = cells::phase(axis);
     if has_stopped(phase) {
-        return Progress {
-            ticks: done,
-            cell: at,
-        };
+        return;
     }
-    let stride = stride_in(rail, phase);
-    while done < ticks {
-        if cells::phase(axis) != phase {
-            return Progress {
-                ticks: done,
-                cell: at,
-            };
-        }
-        at += stride;
-        tick(axis, rail, 0x001F, at);
-        done += 1;
-    }
-    Progress {
-        ticks: done,
-        cell: at,
+    let stride = stride_in(trip.rail, phase);
+    while trip.ticks > 0 && cells::phase(axis) == phase {
+        trip.ticks -= 1;
+        trip.cell += stride;
+        tick(axis, trip.rail, 0x001F, trip.cell);
     }
 }
 
-// The ticks after the start tick, at most so many of them, leg by leg. Returns how many were run.
-fn ride(axis: &mut Lent, rail: Rail, ticks: u32, cell: i64) -> u32
-    requires { StaysNear rail ticks cell }
-    ensures upper_bound { result ≤ ticks }
-    ensures cell_value { ride rail ticks (axis_in axis.old) cell ≡ ran result (stop_of (phase_on (axis_in axis.new))) }
+// The ticks after the start tick, leg by leg. Returns how many were run.
+fn ride(axis: &mut Lent, mut trip: Trip) -> u32
+    ensures upper_bound { result ≤ trip.ticks }
+    ensures cell_value { ride trip.rail trip.ticks (axis_in axis.old) trip.cell ≡ ran result (stop_of (phase_on (axis_in axis.new))) }
 {
-    let mut at = cell;
-    let mut done: u32 = 0;
-    while done < ticks {
-        if has_stopped(cells::phase(axis)) {
-            return done;
-        }
-        let leg = stretch(axis, rail, ticks - done, at);
-        at = leg.cell;
-        done += leg.ticks;
+    let given = trip.ticks;
+    while trip.ticks > 0 && !has_stopped(cells::phase(axis)) {
+        stretch(axis, &mut trip);
     }
-    done
+    given - trip.ticks
 }
 
 fn refused(refusal: Refusal) -> Outcome
     ensures { result ≡ refused_run refusal }
 {
     Outcome {
-        number: settings::number(refusal),
+        number: u32::from(refusal),
         ticks: 0,
         stop: Stop::None,
     }
 }
 
 // Whether a run may be made: first by rail, start and ticks, then by the settings.
-fn judge(fits: bool, s: Settings) -> Verdict
-    ensures { result ≡ judged_by fits s }
+fn judge(rail: Rail, s: Settings, start: i32, ticks: u32) -> Result<(), Refusal>
+    ensures { result ≡ judged rail s start ticks }
 {
-    if fits {
+    if carriage::fits(rail, start, ticks) {
         checks::check(s)
     } else {
-        Verdict::Refused(Refusal::RailUnfit)
+        Err(Refusal::RailUnfit)
+    }
+}
+
+// A run that may be made, after its start tick.
+fn first_trip(rail: Rail, s: Settings, start: i32, ticks: u32) -> Trip
+    requires { judged rail s start ticks ≡ Ok tt }
+    ensures rail { result.rail ≡ rail }
+    ensures ticks { result.ticks ≡ ticks - 1 }
+    ensures cell { result.cell ≡ start }
+{
+    Trip {
+        rail,
+        ticks: ticks - 1,
+        cell: start as i64,
     }
 }
 
 // A run that may be made.
 fn run_admitted(rail: Rail, s: Settings, start: i32, ticks: u32) -> Outcome
-    requires { judged rail s start ticks ≡ Verdict.Accepted }
+    requires { judged rail s start ticks ≡ Ok tt }
     ensures { result ≡ run_of rail s start ticks }
 {
     let mut axis: Lent = [0; 39];
     begin(&mut axis, rail, s, start);
-    let later = ride(&mut axis, rail, ticks - 1, start as i64);
+    let later = ride(&mut axis, first_trip(rail, s, start, ticks));
     let stop = stop_in(cells::phase(&axis));
     Outcome {
         number: 0,
@@ -234,12 +232,13 @@ fn run_admitted(rail: Rail, s: Settings, start: i32, ticks: u32) -> Outcome
 }
 
 // A run from a start cell, given so many ticks.
+// Kept: four parameters and no struct of them, for the theorems of arrival on `run_of` and `trace_of`, which take them one by one.
 pub fn run(rail: Rail, s: Settings, start: i32, ticks: u32) -> Outcome
     ensures { result ≡ run_of rail s start ticks }
 {
-    match judge(carriage::fits(rail, start, ticks), s) {
-        Verdict::Refused(refusal) => refused(refusal),
-        Verdict::Accepted => run_admitted(rail, s, start, ticks),
+    match judge(rail, s, start, ticks) {
+        Err(refusal) => refused(refusal),
+        Ok(()) => run_admitted(rail, s, start, ticks),
     }
 }
 
@@ -250,33 +249,30 @@ fn route_in(phase: u32) -> u32
 }
 
 // One leg.
-fn run_leg(axis: &mut Lent, rail: Rail, ticks: u32, cell: i64) -> LegRun
-    requires { StaysNear rail ticks cell }
-    ensures runs_leg { RunsLeg rail ticks (axis_in axis.old) cell result (axis_in axis.new) }
-    ensures ticks_le_ticks { result.ticks ≤ ticks }
-    ensures stays_near { StaysNear rail (ticks - result.ticks) result.cell }
+fn run_leg(axis: &mut Lent, trip: &mut Trip) -> LegRun
+    ensures told { RunsLeg trip.old.rail trip.old.ticks (axis_in axis.old) trip.old.cell result (axis_in axis.new) }
+    ensures same_rail { trip.new.rail ≡ trip.old.rail }
+    ensures ticks { trip.new.ticks ≡ trip.old.ticks - result.ticks }
+    ensures cell { trip.new.cell ≡ result.cell }
 {
     let route = route_in(cells::phase(axis));
-    let run = stretch(axis, rail, ticks, cell);
+    let given = trip.ticks;
+    stretch(axis, trip);
     LegRun {
         route,
-        ticks: run.ticks,
-        cell: run.cell,
+        ticks: given - trip.ticks,
+        cell: trip.cell,
     }
 }
 
-// The legs after the start tick, with at most so many ticks.
-fn run_legs(axis: &mut Lent, rail: Rail, ticks: u32, cell: i64, outcome: Outcome) -> Trace
-    requires { StaysNear rail ticks cell }
-    ensures { result ≡ legs_from rail ticks (axis_in axis.old) cell outcome }
+// The legs after the start tick.
+fn run_legs(axis: &mut Lent, mut trip: Trip, outcome: Outcome) -> Trace
+    ensures { result ≡ legs_from trip.rail trip.ticks (axis_in axis.old) trip.cell outcome }
 {
-    let first = run_leg(axis, rail, ticks, cell);
-    let ticks = ticks - first.ticks;
-    let second = run_leg(axis, rail, ticks, first.cell);
-    let ticks = ticks - second.ticks;
-    let third = run_leg(axis, rail, ticks, second.cell);
-    let ticks = ticks - third.ticks;
-    let fourth = run_leg(axis, rail, ticks, third.cell);
+    let first = run_leg(axis, &mut trip);
+    let second = run_leg(axis, &mut trip);
+    let third = run_leg(axis, &mut trip);
+    let fourth = run_leg(axis, &mut trip);
     Trace {
         outcome,
         first,
@@ -304,7 +300,7 @@ pub fn follow(rail: Rail, s: Settings, start: i32, ticks: u32) -> Trace
     if outcome.number == 0 {
         let mut axis: Lent = [0; 39];
         begin(&mut axis, rail, s, start);
-        run_legs(&mut axis, rail, ticks - 1, start as i64, outcome)
+        run_legs(&mut axis, first_trip(rail, s, start, ticks), outcome)
     } else {
         Trace {
             outcome,

@@ -7,18 +7,12 @@ ghost use Rattle.speed.specs.Speed.{signed_of, leg_speed};
 
 use settings::Settings;
 
-// A speed is at most 2^28 - 1.
-fn capped(speed: u32) -> u32
-    ensures { result ≡ min speed (2 ^ 28 - 1) }
-{
-    if speed < 0xFFFFFFF { speed } else { 0xFFFFFFF }
-}
-
-// A magnitude with the sign of a direction.
+// A magnitude, at most 2^28 - 1, with the sign of a direction.
+#[tactic(auto, unfolding(crate::specs::Speed::signed_of))]
 fn signed(forward: bool, speed: u32) -> i32
     ensures { result ≡ signed_of forward speed }
 {
-    let magnitude = capped(speed) as i32;
+    let magnitude = speed.min(0xFFFFFFF) as i32;
     if forward { magnitude } else { -magnitude }
 }
 
@@ -26,11 +20,6 @@ fn signed(forward: bool, speed: u32) -> i32
 pub fn speed(s: Settings, leg: u32) -> i32
     ensures { result ≡ leg_speed s (leg_from leg) }
 {
-    let forward = legs::is_forward(leg);
-    let fast = legs::is_fast(leg);
-    if fast {
-        signed(forward, s.fast)
-    } else {
-        signed(forward, s.slow)
-    }
+    let magnitude = if legs::is_fast(leg) { s.fast } else { s.slow };
+    signed(legs::is_forward(leg), magnitude)
 }

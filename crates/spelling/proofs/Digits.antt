@@ -1,40 +1,35 @@
--- The value of a digit, range by range.
+-- The value of a digit and the value that the library gives it, range by range.
 -- Assumes nothing.
-use Prim.Native.Nat.{ℕ, ◌-◌, ◌≤◌, ◌<◌}
-use mathlib.Core.Path.{◌≡◌}
+use Prim.Native.Nat.{ℕ, ◌≤◌, ◌<◌}
+use mathlib.Core.Path.{◌≡◌, refl}
 use native.Mathlib.Omega.{arith}
-use borrow.Author.Tests.{le-leb, lt-leb}
+use mathlib.Core.Bool.{Bool, true, false}
+use borrow.Author.Tests.{ltb-true, ltb-false}
+use lib.Dec.{ltb}
+use Rattle.std.specs.Char as char
 use Rattle.spelling.specs.Spelling.{digit_value}
 
-pub numeral : (b : ℕ) → 48 ≤ b → b ≤ 57 → digit_value b ≡ b - 48
+-- below base 16 the library's digits are these
+pub library : (b base : ℕ) → base ≤ 16 → char.digit_value b < base → digit_value b ≡ char.digit_value b
 unfolding digit_value
-numeral b l h = simp (le-leb 48 b l, le-leb b 57 h)
+library b base h l = grind arith
 
-pub capital : (b : ℕ) → 65 ≤ b → b ≤ 70 → digit_value b ≡ b - 55
+low : (b base : ℕ) → b < 65 → base ≤ 16 → digit_value b < base → char.digit_value b < base
 unfolding digit_value
-capital b l h = simp (le-leb 48 b (omega arith), lt-leb b 57 (omega arith), le-leb 65 b l, le-leb b 70 h)
+low b base r h l = grind arith
 
-pub small : (b : ℕ) → 97 ≤ b → b ≤ 102 → digit_value b ≡ b - 87
+middle : (b base : ℕ) → 65 ≤ b → b < 97 → base ≤ 16 → digit_value b < base → char.digit_value b < base
 unfolding digit_value
-small b l h =
-    simp
-    (le-leb 48 b (omega arith), lt-leb b 57 (omega arith), le-leb 65 b (omega arith), lt-leb b 70 (omega arith), le-leb 97 b l, le-leb b 102 h)
+middle b base q r h l = grind arith
 
--- the four ranges that hold no digit
-pub before-numerals : (b : ℕ) → b < 48 → digit_value b ≡ 16
+high : (b base : ℕ) → 97 ≤ b → base ≤ 16 → digit_value b < base → char.digit_value b < base
 unfolding digit_value
-before-numerals b h = simp (lt-leb 48 b h, lt-leb 65 b (omega arith), lt-leb 97 b (omega arith))
+high b base q h l = grind arith
 
-pub before-capitals : (b : ℕ) → 57 < b → b < 65 → digit_value b ≡ 16
-unfolding digit_value
-before-capitals b l h = simp (le-leb 48 b (omega arith), lt-leb b 57 l, lt-leb 65 b h, lt-leb 97 b (omega arith))
-
-pub before_small : (b : ℕ) → 70 < b → b < 97 → digit_value b ≡ 16
-unfolding digit_value
-before_small b l h = simp (le-leb 48 b (omega arith), lt-leb b 57 (omega arith), le-leb 65 b (omega arith), lt-leb b 70 l, lt-leb 97 b h)
-
-pub after_small : (b : ℕ) → 102 < b → digit_value b ≡ 16
-unfolding digit_value
-after_small b l =
-    simp
-    (le-leb 48 b (omega arith), lt-leb b 57 (omega arith), le-leb 65 b (omega arith), lt-leb b 70 (omega arith), le-leb 97 b (omega arith), lt-leb b 102 l)
+pub library_back : (b base : ℕ) → base ≤ 16 → digit_value b < base → char.digit_value b < base
+library_back b base h l = go (ltb b 65) refl (ltb b 97) refl
+  where
+    go : (s : Bool) → ltb b 65 ≡ s → (t : Bool) → ltb b 97 ≡ t → char.digit_value b < base
+    go true e t f = low b base (ltb-true b 65 e) h l
+    go false e true f = middle b base (ltb-false b 65 e) (ltb-true b 97 f) h l
+    go false e false f = high b base (ltb-false b 97 f) h l

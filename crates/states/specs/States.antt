@@ -1,6 +1,6 @@
 -- 01, "Drive state": the eight states.
 -- Assumes nothing.
-use Rattle.std.specs.Prelude.{ℕ, Bool, ◌||◌, eqb}
+use Rattle.std.specs.Prelude.{ℕ, Bool, cond, ◌||◌, eqb}
 use Rattle.states.specs.declared.State.{State}
 use Rattle.states.specs.declared.State.TheVariants.{NotReady, SwitchOnDisabled, Ready, SwitchedOn, OperationEnabled, QuickStopActive, FaultReaction, Fault}
 
@@ -17,6 +17,17 @@ state_number Fault = 7
 
 abbrev pub is : State → State → Bool
 is s t = eqb (state_number s) (state_number t)
+
+-- the state of a `state_number`; of a number past the last, what a fresh axis has
+unfoldable pub state_at : ℕ → State
+state_at n =
+    cond (eqb n 1) SwitchOnDisabled
+    (cond (eqb n 2) Ready
+    (cond (eqb n 3) SwitchedOn
+    (cond (eqb n 4) OperationEnabled
+    (cond (eqb n 5) QuickStopActive
+    (cond (eqb n 6) FaultReaction
+    (cond (eqb n 7) Fault NotReady))))))
 
 -- Operation enabled or Quick stop active
 abbrev pub live_of : State → Bool

@@ -3,10 +3,10 @@
 
 ghost use Rattle.std.specs.Prelude.{◌≡◌};
 ghost use Rattle.states.specs.Alarm.{alarm_number_of, enters, latched_of};
-ghost use Rattle.states.specs.States.{state_number, is, live_of};
+ghost use Rattle.states.specs.States.{state_number, state_at, live_of};
 ghost use Rattle.states.specs.Status.{status_of};
 
-#[derive(Clone, Copy)]
+#[derive(Clone, Copy, PartialEq, Eq)]
 pub enum State {
     NotReady,
     SwitchOnDisabled,
@@ -18,11 +18,39 @@ pub enum State {
     Fault,
 }
 
+// The state's place in the list above.
+impl From<State> for u32 {
+    ghost from_gives = { λ s n. n ≡ state_number s };
+
+    fn from(state: State) -> u32 {
+        state as u32
+    }
+}
+
+// The state of a place; every number means one, past the last what a fresh axis has.
+impl From<u32> for State {
+    ghost from_gives = { λ n s. s ≡ state_at n };
+
+    #[tactic(auto, unfolding(crate::specs::States::state_at))]
+    fn from(number: u32) -> State {
+        match number {
+            1 => State::SwitchOnDisabled,
+            2 => State::Ready,
+            3 => State::SwitchedOn,
+            4 => State::OperationEnabled,
+            5 => State::QuickStopActive,
+            6 => State::FaultReaction,
+            7 => State::Fault,
+            _ => State::NotReady,
+        }
+    }
+}
+
 // Whether the drive is in Operation enabled or Quick stop active.
 pub fn is_live(state: State) -> bool
     ensures { result ≡ live_of state }
 {
-    in_state(state, State::OperationEnabled) | in_state(state, State::QuickStopActive)
+    matches!(state, State::OperationEnabled | State::QuickStopActive)
 }
 
 // The statusword's bits 0 to 9.
@@ -42,40 +70,18 @@ pub fn status(state: State) -> u16
 }
 
 // The lowest set bit's place plus 1.
+#[tactic(auto, using(crate::proofs::Least::least), unfolding(crate::specs::Alarm::alarm_number_of))]
 pub fn alarm_number(alarm: u32) -> u32
     ensures { result ≡ alarm_number_of alarm }
 {
-    u32::trailing_zeros(alarm) + 1
-}
-
-// Whether the drive is in some state.
-pub fn in_state(state: State, other: State) -> bool
-    ensures { result ≡ is state other }
-{
-    state_number(state) == state_number(other)
-}
-
-// The state's place in the list above.
-pub fn state_number(state: State) -> u32
-    ensures { result ≡ state_number state }
-{
-    match state {
-        State::NotReady => 0,
-        State::SwitchOnDisabled => 1,
-        State::Ready => 2,
-        State::SwitchedOn => 3,
-        State::OperationEnabled => 4,
-        State::QuickStopActive => 5,
-        State::FaultReaction => 6,
-        State::Fault => 7,
-    }
+    alarm.trailing_zeros() + 1
 }
 
 // Whether a tick from one state to another entered Fault reaction.
 fn entered_reaction(before: State, after: State) -> bool
     ensures { result ≡ enters State.FaultReaction before after }
 {
-    !in_state(before, State::FaultReaction) & in_state(after, State::FaultReaction)
+    before != State::FaultReaction && after == State::FaultReaction
 }
 
 // The alarm number after a tick from one state to another: latched on entering Fault reaction, cleared on leaving Fault.
@@ -85,7 +91,7 @@ pub fn latched(number: u32, before: State, after: State, alarm: u32) -> u32
     if entered_reaction(before, after) {
         return alarm_number(alarm);
     }
-    if in_state(before, State::Fault) & !in_state(after, State::Fault) {
+    if before == State::Fault && after != State::Fault {
         0
     } else {
         number

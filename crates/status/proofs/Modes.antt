@@ -1,8 +1,9 @@
 -- The statusword put together by mode and by where homing stands.
 -- Assumes nothing.
-use Prim.Native.Nat.{◌+◌}
+use Prim.Native.Nat.{◌+◌, ◌*◌}
 use mathlib.Core.Path.{◌≡◌}
-use mathlib.Core.Bool.{Bool}
+use mathlib.Core.Bool.{Bool, true, false}
+use mir.Val.{bool_byte}
 use native.Mathlib.Omega.{arith}
 use Rattle.states.specs.declared.State.{State}
 use Rattle.states.specs.Status.{status_of}
@@ -11,8 +12,13 @@ use Rattle.modes.specs.declared.Mode.TheVariants.{None, Hybrid, Homing, Position
 use Rattle.homing.specs.Phase.{Phase, Idle, Running, Homed, Failed}
 use Rattle.status.specs.Statusword.{weight_of, flags_in, mode_bits, statusword_of}
 
+-- a flag as a number, times a weight
+limit : (b : Bool) → 0x0800 * bool_byte b ≡ weight_of b 0x0800
+limit true = omega arith
+limit false = omega arith
+
 module _ (s : State) (following limited : Bool) where
-  pub by_mode : (mode : Mode) (p : Phase)
+  by_mode : (mode : Mode) (p : Phase)
       → status_of s + mode_bits mode p following + weight_of limited 0x0800 ≡ statusword_of s mode (flags_in p following limited)
   unfolding statusword_of
   by_mode None Idle = omega arith
@@ -35,3 +41,7 @@ module _ (s : State) (following limited : Bool) where
   by_mode Torque (Running place) = omega arith
   by_mode Torque Homed = omega arith
   by_mode Torque Failed = omega arith
+
+  pub as_added : (mode : Mode) (p : Phase)
+      → status_of s + mode_bits mode p following + 0x0800 * bool_byte limited ≡ statusword_of s mode (flags_in p following limited)
+  as_added mode p = rw (limit limited) (by_mode mode p)

@@ -1,6 +1,6 @@
 -- 01, "A tick": mode, drive state, homing; then control word, switches and position are remembered.
 -- Assumes nothing.
-use Rattle.std.specs.Prelude.{ℕ, Bool, cond, not, ◌&&◌, ◌||◌, ℤ}
+use Rattle.std.specs.Prelude.{ℕ, Bool, cond, not, ◌&&◌, ◌||◌, ℤ, None, Option}
 use Rattle.settings.specs.declared.Settings.{Settings}
 use Rattle.states.specs.declared.State.{State}
 use Rattle.states.specs.Alarm.{latched_of}
@@ -11,8 +11,6 @@ use Rattle.commands.specs.declared.Command.TheVariants.{Hybrid, Homing, Position
 use Rattle.legs.specs.Events.{View}
 use Rattle.homing.specs.Phase.{Phase, homed_in}
 use Rattle.homing.specs.Steps.{start_of, step_of}
-use Rattle.position.specs.declared.Followed.{Followed}
-use Rattle.position.specs.declared.Followed.TheVariants.{Nothing}
 use Rattle.position.specs.Position.{followed_of}
 use Rattle.ticks.specs.declared.Tick.{Tick}
 use Rattle.ticks.specs.Motion.{Motion}
@@ -48,12 +46,12 @@ abbrev pub new_home : Settings → Motion → Tick → ℤ
 new_home s a t = home_by a t (homing_in t (new_mode a t) (new_state s a t)) (new_phase s a t)
 
 -- the target of a position command that is matched, enabled and homed
-abbrev pub target_of : Command → Bool → State → Bool → Followed
+abbrev pub target_of : Command → Bool → State → Bool → Option ℤ
 target_of (Position target request) matched state homed = followed_of matched state homed target
-target_of (Hybrid h) matched state homed = Nothing
-target_of (Homing request) matched state homed = Nothing
-target_of (Torque request) matched state homed = Nothing
-target_of Rest matched state homed = Nothing
+target_of (Hybrid h) matched state homed = None
+target_of (Homing request) matched state homed = None
+target_of (Torque request) matched state homed = None
+target_of Rest matched state homed = None
 
 -- "Then control word, switches and position are remembered"
 abbrev pub motion_with : Tick → State → Mode → ℕ → Phase → ℤ → Motion

@@ -10,7 +10,6 @@ ghost use Rattle.ticks.specs.After.{target_of};
 use commands::Command;
 use legs::events::Switches;
 use modes::Mode;
-use position::Followed;
 use states::State;
 use torque::LimitSet;
 
@@ -32,20 +31,18 @@ pub struct Tick {
 pub fn homing_on(wanted: Mode, mode: Mode, state: State) -> bool
     ensures { result ≡ homing_on wanted mode state }
 {
-    modes::is_matched(wanted, mode)
-        & modes::is_mode(mode, Mode::Homing)
-        & states::in_state(state, State::OperationEnabled)
+    modes::is_matched(wanted, mode) && mode == Mode::Homing && state == State::OperationEnabled
 }
 
 // The target of a position command that is matched, enabled and homed.
-pub fn command_target(command: Command, mode: Mode, state: State, homed: bool) -> Followed
+pub fn command_target(command: Command, mode: Mode, state: State, homed: bool) -> Option<i32>
     ensures { result ≡ target_of command (matched_of (mode_of command) mode) state homed }
 {
-    let matched = modes::is_matched(commands::mode(command), mode);
-    position::follow(
-        matched & modes::is_mode(mode, Mode::Position),
-        state,
-        homed,
-        commands::position_target(command),
-    )
+    match command {
+        Command::Position(target, _) => {
+            let matched = modes::is_matched(Mode::Position, mode);
+            position::follow(matched, state, homed, target)
+        }
+        _ => None,
+    }
 }

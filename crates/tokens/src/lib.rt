@@ -2,9 +2,8 @@
 #![tactic(auto)]
 
 ghost use Rattle.std.specs.Prelude.{◌≤◌, min, ◌≡◌, length};
-ghost use Rattle.scan.specs.Bytes.{index_of};
-ghost use Rattle.tokens.specs.Ascii.{same_of};
-ghost use Rattle.tokens.specs.Words.{blank_of, blank_is, skip_of, next_word, SpanIn};
+ghost use Rattle.scan.specs.Bytes.{place_of, PlaceOf};
+ghost use Rattle.tokens.specs.Words.{blank_of, blank_is, run_of, skip_of, next_word, SpanIn};
 
 // The place of a word: its first byte, and one past its last.
 #[derive(Clone, Copy)]
@@ -16,37 +15,42 @@ pub struct Span {
 fn is_blank(byte: u8) -> bool
     ensures { result ≡ blank_of byte }
 {
-    (byte == 32) | (byte == 9)
+    matches!(byte, b' ' | b'\t')
 }
 
+// Whether a byte is blank (blank), or is not (not blank).
 fn blank_is(blank: bool, byte: u8) -> bool
     ensures { result ≡ blank_is blank byte }
 {
-    if blank {
-        is_blank(byte)
-    } else {
-        !is_blank(byte)
-    }
+    is_blank(byte) == blank
+}
+
+// How many bytes in front are blank (blank), or are not (not blank).
+fn run(blank: bool, text: &[u8]) -> usize
+    ensures value { result ≡ run_of blank text.now }
+    ensures upper_bound { result ≤ length text.now }
+{
+    text.iter()
+        .take_while(|byte| blank_is(blank, **byte))
+        .count()
 }
 
 // Past the blanks (blank), or past the word (not blank), that stands at `at`.
+// Kept: the new form is no plainer. `blank` is a value that specs/ speaks of too (run_of); a closure in its place
+// would be described by what its calls give, for each byte.
 fn skip(blank: bool, text: &[u8], at: usize) -> usize
     ensures value { result ≡ skip_of blank text.now at }
     ensures lower_bound { min at (length text.now) ≤ result }
     ensures upper_bound { result ≤ length text.now }
 {
-    let mut i = at;
-    while i < text.len() {
-        if blank_is(blank, text[i]) {
-            i += 1;
-        } else {
-            return i;
-        }
+    match text.get(at..) {
+        Some(rest) => at + run(blank, rest),
+        None => text.len(),
     }
-    text.len()
 }
 
 // The next word from `at` on; empty, at the end, where there is none.
+#[tactic(auto, unfolding(crate::specs::Words::next_word))]
 pub fn next(text: &[u8], at: usize) -> Span
     ensures value { result ≡ next_word text.now at }
     ensures span_in { SpanIn result text.now }
@@ -56,26 +60,11 @@ pub fn next(text: &[u8], at: usize) -> Span
     Span { start, end }
 }
 
-// The first place that holds a byte, or the length where none does.
-pub fn find(text: &[u8], byte: u8) -> usize
-    ensures value { result ≡ index_of byte text.now }
-    ensures upper_bound { result ≤ length text.now }
+// The first place of a text that holds a byte.
+// Kept: the new form is no plainer. It is the search of `scan` from 0 on; without it each caller writes that 0.
+pub fn find(text: &[u8], byte: u8) -> Option<usize>
+    ensures value { result ≡ place_of byte 0 text.now }
+    ensures place { PlaceOf byte 0 text.now result }
 {
     scan::find(text, 0, byte)
-}
-
-pub fn same(a: &[u8], b: &[u8]) -> bool
-    ensures { result ≡ same_of a.now b.now }
-{
-    if a.len() != b.len() {
-        return false;
-    }
-    let mut i: usize = 0;
-    while i < a.len() {
-        if a[i] != b[i] {
-            return false;
-        }
-        i += 1;
-    }
-    true
 }

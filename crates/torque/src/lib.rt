@@ -25,18 +25,12 @@ pub struct Bounds {
     pub high: i32,
 }
 
-fn lesser(a: u32, b: u32) -> u32
-    ensures { result ≡ min a b }
-{
-    if a < b { a } else { b }
-}
-
 // What caps every limit in a shown mode: the maximum, in homing mode the homing torque too.
 fn ceiling(s: Settings, mode: Mode) -> u32
     ensures { result ≡ ceiling_of s mode }
 {
-    if modes::is_mode(mode, Mode::Homing) {
-        lesser(s.maximum, s.homing)
+    if mode == Mode::Homing {
+        s.maximum.min(s.homing)
     } else {
         s.maximum
     }
@@ -46,7 +40,7 @@ fn ceiling(s: Settings, mode: Mode) -> u32
 fn cap(ceiling: u32, limit: u32) -> u32
     ensures { result ≡ guarded (min ceiling limit) }
 {
-    lesser(lesser(ceiling, limit), 0x7FFFFFFF)
+    ceiling.min(limit).min(0x7FFFFFFF)
 }
 
 fn bounds_of(ceiling: u32, positive: u32, negative: u32) -> Bounds
@@ -59,6 +53,7 @@ fn bounds_of(ceiling: u32, positive: u32, negative: u32) -> Bounds
 }
 
 // The bounds of a tick that shows this mode and chose this set.
+#[tactic(auto, unfolding(crate::specs::Limits::cap_of))]
 pub fn chosen_bounds(s: Settings, mode: Mode, set: LimitSet) -> Bounds
     ensures { result ≡ chosen_bounds s mode set }
 {
@@ -70,22 +65,22 @@ pub fn chosen_bounds(s: Settings, mode: Mode, set: LimitSet) -> Bounds
 }
 
 // A demand held within bounds.
-fn held(demand: Demand, low: i32, high: i32) -> i32
-    ensures { result ≡ clamped (whole_demand demand) low high }
+fn held(demand: Demand, b: Bounds) -> i32
+    ensures { result ≡ clamped (whole_demand demand) b.low b.high }
 {
     match demand {
-        Demand::Request(request) => counts::clamp(request as i32, low, high),
-        Demand::Quotient(q) => hybrid::demand(q, low, high),
+        Demand::Request(request) => counts::clamp(i32::from(request), b.low, b.high),
+        Demand::Quotient(q) => hybrid::demand(q, b.low, b.high),
     }
 }
 
 // The torque of a demand; mode: the shown one; on: the drive is live and the command matched.
+#[tactic(auto, unfolding(crate::specs::Torque::torque_of))]
 pub fn torque(s: Settings, mode: Mode, set: LimitSet, on: bool, demand: Demand) -> i32
     ensures { result ≡ torque_of s mode set on (whole_demand demand) }
 {
     if on {
-        let b = chosen_bounds(s, mode, set);
-        held(demand, b.low, b.high)
+        held(demand, chosen_bounds(s, mode, set))
     } else {
         0
     }

@@ -9,15 +9,14 @@ use settings::Settings;
 fn short_position(low: u32) -> i32
     ensures { result ≡ signed 28 (low % 2 ^ 28) }
 {
-    (((low as i64) << 36) >> 36) as i32
+    (low << 4).cast_signed() >> 4
 }
 
 // A position from the low 28 bits and the four above them.
 fn long_position(low: u32, top: u32) -> i32
     ensures { result ≡ signed 32 ((low + top * 2 ^ 28) % 2 ^ 32) }
 {
-    let bits = low as u64 + top as u64 * 0x10000000;
-    counts::wrap(bits as i64)
+    low.wrapping_add(top << 28).cast_signed()
 }
 
 // The option that the values carry.
@@ -43,6 +42,7 @@ fn homing(values: [u32; 14]) -> u32
 }
 
 // The settings that the values carry, but for those that layouts carry in their own ways, which are given.
+// Kept one by one: theorems above speak of such settings by the definition `settings_from`, which takes them so.
 pub fn decode_with(
     offset: i32,
     lower: i32,

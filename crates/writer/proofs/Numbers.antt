@@ -1,5 +1,6 @@
 -- The writer gives the number of the first case that holds, and accepts exactly the acceptable settings that the layout holds.
 -- Assumes nothing.
+use Rattle.std.specs.Prelude.{Err, Ok}
 use mathlib.Core.Path.{◌≡◌, refl, sym, ◌∙◌}
 use mathlib.Core.Bool.{Bool, true, false, cond, not, ◌&&◌, ◌||◌, and-false, false≢true}
 use mathlib.Core.Logic.{◌↔◌}
@@ -7,7 +8,6 @@ use borrow.Author.Tests.{le-ltb}
 use lib.Dec.{eqb}
 use lib.ListN.{length}
 use Rattle.settings.specs.declared.Refusal.TheVariants.{UnknownLayout, BufferTooShort, LongValue, HomingTorqueLost}
-use Rattle.settings.specs.declared.Verdict.TheVariants.{Accepted, Refused}
 use Rattle.settings.specs.Refusal.{verdict_number, first_of}
 use Rattle.settings.specs.Ranges.{positions_fit}
 use Rattle.settings.proofs.Within.{both}
@@ -25,7 +25,7 @@ write-number layout s buffer = go (not (is_layout layout)) (buffer_too_short lay
   where
     go : (a b c d : Bool)
         → verdict_number
-        (cond a (Refused UnknownLayout) (cond b (Refused BufferTooShort) (cond c (Refused LongValue) (cond d (Refused HomingTorqueLost) (verdict_of s)))))
+        (cond a (Err UnknownLayout) (cond b (Err BufferTooShort) (cond c (Err LongValue) (cond d (Err HomingTorqueLost) (verdict_of s)))))
         ≡ cond a 2 (cond b 9 (cond c 10 (cond d 11 (first_of (checks.tests_of s)))))
     go true b c d = refl
     go false true c d = refl
@@ -39,12 +39,12 @@ accepts-exactly layout s buffer h =
     rw (le-ltb (length buffer) (needed layout) h) (go (is_layout layout) (eqb layout 1) (positions_fit 28 s) refl (carries_homing_torque layout) (homing_is_maximum s))
   where
     -- 32 bits hold all that is acceptable
-    wide : (verdict_of s ≡ Accepted) ↔ (positions_fit 32 s && true && acceptable s ≡ true)
+    wide : (verdict_of s ≡ Ok tt) ↔ (positions_fit 32 s && true && acceptable s ≡ true)
     wide = (λ e. let a = (accepts s).0 e in rw (positions-32 s a, a), λ e. (accepts s).1 (both (positions_fit 32 s && true) (acceptable s) e).1)
 
     -- b: layout 1, f: its 28 bits are enough, c: the layout carries a homing torque, m: that is the maximum
     go : (k b f : Bool) → positions_fit 28 s ≡ f → (c m : Bool)
-        → (cond (not k) (Refused UnknownLayout) (cond (b && not f) (Refused LongValue) (cond (not c && not m) (Refused HomingTorqueLost) (verdict_of s))) ≡ Accepted)
+        → (cond (not k) (Err UnknownLayout) (cond (b && not f) (Err LongValue) (cond (not c && not m) (Err HomingTorqueLost) (verdict_of s))) ≡ Ok tt)
         ↔ (k && (positions_fit (cond b 28 32) s && (c || m)) && acceptable s ≡ true)
     go false b f p c m = (refused-accepted UnknownLayout, λ e. absurd (false≢true e))
     go true true false p c m = rw p (refused-accepted LongValue, λ e. absurd (false≢true e))

@@ -1,8 +1,7 @@
 -- The writer's own cases of refusal, tested before those of the settings.
 -- Assumes nothing.
-use Rattle.std.specs.Prelude.{ℕ, ◌≤◌, List, ◌∷◌, ◌≡◌, true, not, ◌↔◌, length}
+use Rattle.std.specs.Prelude.{ℕ, ◌≤◌, List, ◌∷◌, ◌≡◌, true, not, ◌↔◌, length, Ok}
 use Rattle.settings.specs.declared.Settings.{Settings}
-use Rattle.settings.specs.declared.Verdict.TheVariants.{Accepted}
 use Rattle.settings.specs.Refusal.{verdict_number, Test, test, first_of}
 use Rattle.layouts.specs.Layout.{is_layout, long_value, homing_torque_lost}
 use Rattle.checks.specs.Check.{sendable}
@@ -25,4 +24,4 @@ Numbers = (layout : ℕ) (s : Settings) (buffer : List ℕ) → verdict_number (
 abbrev pub AcceptsExactly : Type 0
 AcceptsExactly =
     (layout : ℕ) (s : Settings) (buffer : List ℕ) → needed layout ≤ length buffer
-    → (write_verdict layout s buffer ≡ Accepted) ↔ (sendable layout s ≡ true)
+    → (write_verdict layout s buffer ≡ Ok tt) ↔ (sendable layout s ≡ true)

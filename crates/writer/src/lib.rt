@@ -7,7 +7,7 @@ ghost use Rattle.settings.specs.Ranges.{in_range};
 ghost use Rattle.words.specs.Encode.{limit_set, low_of, top_of, tops_of, option_data, values_of, below, checksum_of, words_from, sealed};
 ghost use Rattle.writer.specs.Write.{write_verdict, written};
 
-use settings::{Refusal, Settings, Verdict};
+use settings::{Refusal, Settings};
 use words::KIND;
 
 // The low 28 bits of a position.
@@ -90,32 +90,27 @@ fn values(layout: u32, s: Settings) -> [u32; 15]
 }
 
 // Writes settings as the words of a layout to the front of the buffer.
-pub fn write(layout: u32, s: Settings, buffer: &mut [u32]) -> Verdict
+pub fn write(layout: u32, s: Settings, buffer: &mut [u32]) -> Result<(), Refusal>
     ensures verdict { result ≡ write_verdict layout s buffer.old }
     ensures words { buffer.new ≡ written layout s buffer.old }
 {
     if !layouts::is_layout(layout) {
-        return Verdict::Refused(Refusal::UnknownLayout);
+        return Err(Refusal::UnknownLayout);
     }
     let size = layouts::size(layout) as usize;
     if buffer.len() <= size {
-        return Verdict::Refused(Refusal::BufferTooShort);
+        return Err(Refusal::BufferTooShort);
     }
     if layouts::is_long(layout, s) {
-        return Verdict::Refused(Refusal::LongValue);
+        return Err(Refusal::LongValue);
     }
     if layouts::loses_homing_torque(layout, s) {
-        return Verdict::Refused(Refusal::HomingTorqueLost);
+        return Err(Refusal::HomingTorqueLost);
     }
-    let verdict = checks::check(s);
-    match verdict {
-        Verdict::Refused(refusal) => Verdict::Refused(refusal),
-        Verdict::Accepted => {
-            let data = values(layout, s);
-            fill(size, data, buffer);
-            Verdict::Accepted
-        }
-    }
+    checks::check(s)?;
+    let data = values(layout, s);
+    fill(size, data, buffer);
+    Ok(())
 }
 
 // The words of kinds 0 to 13, which every layout has. Returns the sum of their data.
@@ -125,6 +120,7 @@ fn first_words(values: [u32; 15], buffer: &mut [u32]) -> u32
     ensures buffer_after { buffer.new ≡ words_from 0 (take 14 values) ++ drop 14 buffer.old }
 {
     let mut sum: u32 = 0;
+    // Kept: `i` is the word's place and its kind; an `enumerate` over the values names the two no plainer, and stores at `i` all the same.
     for i in 0..14 {
         let x = values[i];
         buffer[i] = (i as u32) * KIND + x;

@@ -14,22 +14,22 @@ complete-requires c =
     } in
     rebuilt closed
 
-pub returns-in-Accepted : goal.returns-in-Accepted
-returns-in-Accepted c =
+pub returns-in-Ok : goal.returns-in-Ok
+returns-in-Ok c =
     let closed : Closed c.args.axis.now c.args.sum c.pending_settings-s.result c.close-verdict.result c.empty.new.axis = record {
       due = c.requires;
       settings = c.pending_settings-s.ensures;
       verdict = c.close-verdict.ensures ∙ rw c.checksum.ensures;
       emptied = c.empty.ensures;
     } in
-    complete-end closed _ _ c.in-Accepted.is c.complete.ensures
+    complete-end closed _ _ c.in-Ok.is c.complete.ensures
 
-pub returns-in-Refused : goal.returns-in-Refused
-returns-in-Refused c =
+pub returns-in-Err : goal.returns-in-Err
+returns-in-Err c =
     let closed : Closed c.args.axis.now c.args.sum c.pending_settings-s.result c.close-verdict.result c.empty.new.axis = record {
       due = c.requires;
       settings = c.pending_settings-s.ensures;
       verdict = c.close-verdict.ensures ∙ rw c.checksum.ensures;
       emptied = c.empty.ensures;
     } in
-    refused_end closed _ c.in-Refused.is
+    refused_end closed _ c.in-Err.is

@@ -6,4 +6,4 @@ use Rattle.cells.proofs.put_drive.Goals as goal
 pub returns : goal.returns
 returns c =
     let x = c.args in
-    rw (c.ordinal.ensures, c.state_number.ensures) (driven-words x.axis.now c.lent.ensures x.state x.mode x.alarm)
+    rw (c.from-2.ensures, c.from.ensures) (driven-words x.axis.now c.lent.ensures x.state x.mode x.alarm)

@@ -1,13 +1,9 @@
--- `counts::pattern` meets its contract: 2 ^ 32 more is not negative, and has the same low 32 bits.
+-- `counts::pattern` meets its contract: a number's bits are the number modulo 2 ^ 32.
 -- Assumes nothing.
-use native.Mathlib.Omega.{arith}
-use mir.Syntax.{w64}
-use mir.ValLaws.{to_z_pos}
-use Rattle.counts.proofs.Integers.{read_wide}
-use Rattle.counts.proofs.Modulo.{raised}
+use mathlib.Core.Path.{◌∙◌}
+use mir.Facts.{to_z-of_z}
+use Rattle.counts.proofs.Modulo.{bits-modulo}
 use Rattle.counts.proofs.pattern.Goals as goal
 
 pub returns : goal.returns
-returns c =
-    let r = raised c.args.number c.ranges.number in
-    rw (read_wide c.ranges.number, r.1, to_z_pos w64 r.0 (omega (arith, r.2))) r.3
+returns c = (rw (to_z-of_z c.ranges.number) at c.cast_unsigned.ensures) ∙ bits-modulo c.args.number c.ranges.number

@@ -1,20 +1,17 @@
 -- `drawing::column_of` meets its contract: below the rail, on it, and beyond it.
 -- Assumes nothing.
-use Rattle.std.proofs.Common.{◌<◌, ◌^◌, arith}
 use Rattle.drawing.proofs.Cells.{column-below, column-among, column-beyond}
 use Rattle.drawing.proofs.column_of.Goals as goal
 
-pub returns-then-cell-lt0 : goal.returns-then-cell-lt0
-returns-then-cell-lt0 c = column-below c.args.rail c.ranges.cell c.if-cell-lt0.true
+pub returns-in-Err : goal.returns-in-Err
+returns-in-Err c = column-below c.args.rail c.ranges.cell c.in-Err.ensures
 
-pub returns-then-cell-rail : goal.returns-then-cell-rail
-returns-then-cell-rail c =
-    let k : c.args.rail.length < 2 ^ 32 = omega arith in
+pub returns-in-Ok : goal.returns-in-Ok
+returns-in-Ok c =
     let n = c.columns-columns in
-    column-among c.args.rail n.result n.ensures.value k c.ranges.cell c.if-cell-lt0.false c.if-cell-rail.true
+    column-among c.args.rail n.result c.in-Ok.place n.ensures.value c.ranges.cell c.in-Ok.ensures c.if-place-length.true
 
-pub returns-else-cell-rail : goal.returns-else-cell-rail
-returns-else-cell-rail c =
-    let k : c.args.rail.length < 2 ^ 32 = omega arith in
+pub returns-in-Ok-2 : goal.returns-in-Ok-2
+returns-in-Ok-2 c =
     let n = c.columns-columns in
-    column-beyond c.args.rail n.result n.ensures.value k c.ranges.cell c.if-cell-lt0.false c.if-cell-rail.false
+    column-beyond c.args.rail n.result c.in-Ok.place n.ensures.value c.ranges.cell c.in-Ok.ensures c.if-place-length.false

@@ -1,4 +1,4 @@
--- `drawing::picture` meets its contract.
+-- `drawing::picture` meets its contract: part after part.
 -- Assumes nothing.
 use Prim.Native.Char.{code}
 use mir.Facts.{to_z-of_z}
@@ -7,7 +7,8 @@ use Rattle.std.proofs.Common.{◌≡◌, ℤ, ap, ◌∙◌, w32, w64, to_z, of_
 use Rattle.counts.proofs.Integers.{wide, widen, read_wide}
 use Rattle.carriage.specs.declared.Rail.{Rail}
 use Rattle.tokens.specs.Ascii.{ascii}
-use Rattle.page.proofs.Printing.{◌⨾◌, printed-as}
+use Rattle.page.specs.Page.{seen, printed}
+use Rattle.page.proofs.Printing.{and_then}
 use Rattle.drawing.specs.Picture.{point_row, start_row, leg_rows, last_cell, legs_of, end_row}
 use Rattle.drawing.proofs.picture.Goals as goal
 
@@ -17,13 +18,14 @@ started r f = rw (to_z-of_z f, to_z-of_z (widen f))
 
 pub returns : goal.returns
 returns c =
-    let rail = c.args.rail in
-    let t = c.args.trace in
+    let a = c.args in
     let f = c.ranges.start in
-    let drawn = c.leg_rows-ended in
-    let e : SFits w64 drawn.result.cell = search rules in
-    let last = to_z-of_z e ∙ drawn.ensures.cell ∙ ap (λ x. last_cell x (legs_of t)) (read_wide f) in
-    c.rail_row-at.ensures
-    ⨾ printed-as (started rail f) c.point_row-at.ensures
-    ⨾ printed-as (ap (λ x. leg_rows rail x (legs_of t)) (read_wide f)) drawn.ensures.text
-    ⨾ printed-as (ap (λ x. end_row rail x t.outcome.stop) last) c.end_row.ensures
+    let drawn = c.leg_rows-cell in
+    let e : SFits w64 drawn.result = search rules in
+    let last = to_z-of_z e ∙ drawn.ensures.cell ∙ ap (λ x. last_cell x (legs_of a.trace)) (read_wide f) in
+    and_then (seen a.page.now) (seen drawn.new.page) (seen c.end_row.new.page) _ _
+    (and_then (seen a.page.now) (seen c.point_row.new.page) (seen drawn.new.page) _ _
+    (and_then (seen a.page.now) (seen c.rail_row.new.page) (seen c.point_row.new.page) _ _ c.rail_row.ensures
+    (c.point_row.ensures ∙ ap (printed (seen c.rail_row.new.page)) (started a.rail f)))
+    (drawn.ensures.text ∙ ap (λ x. printed (seen c.point_row.new.page) (leg_rows a.rail x (legs_of a.trace))) (read_wide f)))
+    (c.end_row.ensures ∙ ap (λ x. printed (seen drawn.new.page) (end_row a.rail x a.trace.outcome.stop)) last)

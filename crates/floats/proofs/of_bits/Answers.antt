@@ -5,10 +5,6 @@ use lib.Ieee.{nan_bits, of_bits, of_fields, sub, add, neg}
 use Rattle.floats.proofs.Laws.{nan_pattern}
 use Rattle.floats.proofs.of_bits.Goals as goal
 
-pub float_from_bits-infinity : goal.float_from_bits-infinity
-unfolding nan_bits
-float_from_bits-infinity c = tt
-
 pub float_from_bits-result : goal.float_from_bits-result
 unfolding nan_bits
 float_from_bits-result c = rw c.if-bits.false tt

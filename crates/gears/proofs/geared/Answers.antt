@@ -17,7 +17,7 @@ overflow_mul-units c = let h : c.capped.result ≤ 2 ^ 20 = omega arith in searc
 pub floored-requires : goal.floored-requires
 floored-requires c =
     let offset : SFits w32 c.args.s.offset = search rules in
-    (product_small {k = c.capped.result} c.ranges.position offset (omega arith), omega arith, omega arith)
+    product_small {k = c.capped.result} c.ranges.position offset (omega arith)
 
 pub returns : goal.returns
 unfolding geared_of

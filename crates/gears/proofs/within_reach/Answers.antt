@@ -21,7 +21,7 @@ pub returns : goal.returns
 unfolding geared_of
 returns c =
     let offset : SFits w32 c.args.s.offset = search rules in
-    let d = c.divisor-d.result in
+    let d = c.divisor-d.result.value in
     rw (
       product-read {k = c.capped.result} c.ranges.position offset (omega arith),
       to_z-of_z (times-fits {z = neg_ℤ (pos (2 ^ 30))} {d = d} (search rules) (search rules)),

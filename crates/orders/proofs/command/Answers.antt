@@ -1,9 +1,13 @@
--- `orders::command` meets its contract.
+-- `orders::command` meets its contract: a word means what its name means.
 -- Assumes nothing.
-use Rattle.orders.proofs.Named.{named}
+use Rattle.std.proofs.Common.{refl}
+use Rattle.cursors.specs.declared.Expected.TheVariants.{Command}
+use Rattle.cursors.proofs.Texts.{read_by_name}
+use Rattle.orders.specs.Orders.{commands, command_read}
 use Rattle.orders.proofs.command.Goals as goal
 
 pub returns : goal.returns
+unfolding command_read
 returns c =
-    let a = c.args in
-    named a.text.now a.cursor c.numbered.ensures c.which-number.ensures c.accept-next.ensures c.refuse-lost.ensures c.next-word.ensures.value
+    let word = c.next-word.ensures in
+    read_by_name c.args.cursor.now commands Command refl c.named.ensures c.name.ensures c.trouble.ensures word.at word.bytes word.moved

@@ -10,12 +10,12 @@ use Rattle.position.specs.Position.{count_of}
 use borrow.Author.Rules.{rules}
 use Rattle.position.proofs.count_of.Goals as goal
 
-pub returns-in-Count : goal.returns-in-Count
+pub returns-in-Some : goal.returns-in-Some
 unfolding count_of
-returns-in-Count c =
+returns-in-Some c =
     let r : SFits w32 c.sum.result = search rules in
-    let n : SFits w32 c.in-Count.count = search rules in
-    let e = rw (to_z-of_z c.ranges.target) at c.in-Count.ensures in
-    let same : c.in-Count.count ≡ geared_of c.args.s (within_limits c.args.s c.args.target) =
+    let n : SFits w32 c.in-Some.count = search rules in
+    let e = rw (to_z-of_z c.ranges.target) at c.in-Some.ensures in
+    let same : c.in-Some.count ≡ geared_of c.args.s (within_limits c.args.s c.args.target) =
     rw (sym e) at (same_count c.args.s c.args.target) in
     rw (to_z-of_z r, c.sum.ensures, to_z-of_z c.ranges.home, to_z-of_z n, same)

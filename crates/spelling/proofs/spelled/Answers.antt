@@ -5,70 +5,72 @@ use mathlib.Core.Path.{◌≡◌, sym, ap, subst, ◌∙◌}
 use native.Mathlib.Nat.{le_trans, pow-le-pow_left, pow-le-pow_right}
 use native.Mathlib.Numerals.{add-one}
 use native.Mathlib.Omega.{arith}
-use borrow.Author.Tests.{lt-ltb, le-ltb}
+use borrow.Author.Tests.{eqb-true, eqb-false}
 use lib.ListN.{length, drop}
 use lib.Seq.{drop-length}
-use Rattle.spelling.specs.Spelling.{spelled_from}
-use Rattle.spelling.proofs.Reach.{further, stops, reach, within, no-digits, many-digits}
+use Rattle.spelling.specs.Spelling.{spelled_from, Below}
+use Rattle.spelling.proofs.Reach.{further, stops, reach, within, no-digits, many-digits, most-below}
 use Rattle.spelling.proofs.spelled.Goals as goal
+use Rattle.spelling.proofs.spelled.Goals.{then-is_empty-via-then-is_empty, then-is_empty-via-else-is_empty+then-most-text}
 
--- what so many digits of a base reach fits 64 bits
-fits : (base i : ℕ) → base ≤ 16 → i < 10 → base ^ suc i ≤ 16 ^ 10
-fits base i b n = le_trans (pow-le-pow_left b (suc i)) (pow-le-pow_right (omega arith) n)
+-- one digit more, in a text that may have it, reaches no further than 64 bits
+fits : (base v d i : ℕ) → base ≤ 16 → i < 10 → v < base ^ i → d < base → v * base + d < 16 ^ 10
+fits base v d i b n h t = let sixteen : 1 ≤ 16 = omega arith in omega (arith, reach base v d i h t, le_trans (pow-le-pow_left b (suc i)) (pow-le-pow_right sixteen n))
 
-pub returns-then-text-eq0 : goal.returns-then-text-eq0
-returns-then-text-eq0 c = sym (no-digits c.args.base c.args.most c.args.text.now c.if-text-eq0.true)
-
-pub returns-then-most-text : goal.returns-then-most-text
-returns-then-most-text c =
+pub returns-then-is_empty-clause-value : goal.returns-then-is_empty-clause-value
+returns-then-is_empty-clause-value c =
     let a = c.args in
-    sym (many-digits a.base a.most a.text.now c.if-most-text.true)
+    elim c.then-is_empty.branch [
+      | then-is_empty-via-then-is_empty w ↦ sym (no-digits a.base a.most a.text.now (eqb-true _ 0 (sym c.is_empty.ensures ∙ w.if-is_empty.true)))
+      | then-is_empty-via-else-is_empty+then-most-text w ↦ sym (many-digits a.base a.most a.text.now w.if-most-text.true)
+    ]
 
-pub returns-then-base-d : goal.returns-then-base-d
-returns-then-base-d c =
+pub returns-in_err-digit-clause-value : goal.returns-in_err-digit-clause-value
+returns-in_err-digit-clause-value c =
     let a = c.args in
-    sym
+    let l = c.loop-byte in
+    c.from_residual.ensures
+    ∙ sym
     (within a.base a.most a.text.now (omega arith) (omega arith)
-    ∙ c.loop-i.invariant.2
-    ∙ stops a.base c.loop-i.value a.text.now c.loop-i.i (omega arith) (le-ltb _ _ (subst (λ d. a.base ≤ d) c.digit-d.ensures c.if-base-d.true)))
+    ∙ l.invariant.the_rest
+    ∙ stops a.base l.value a.text.now l.byte-index c.requires.base_bound (omega arith) c.in_err-digit.ensures.value)
 
 pub overflow_mul-value : goal.overflow_mul-value
 overflow_mul-value c =
-    let a = c.args in
-    let l = c.loop-i in
-    let below : l.value * a.base + c.digit-d.result < a.base ^ suc l.i =
-    reach a.base l.value c.digit-d.result l.i l.invariant.1 c.if-base-d.false in
-    omega (arith, fits a.base l.i c.requires.base_bound (omega arith))
+    let l = c.loop-byte in
+    let digit = c.in_ok-digit.ensures.value in
+    omega (arith, fits c.args.base l.value c.in_ok-digit.digit l.byte-index c.requires.base_bound (omega arith) l.invariant.reached (omega arith))
 
 pub overflow_add-value : goal.overflow_add-value
 overflow_add-value c =
-    let a = c.args in
-    let l = c.loop-i in
-    let below : l.value * a.base + c.digit-d.result < a.base ^ suc l.i =
-    reach a.base l.value c.digit-d.result l.i l.invariant.1 c.if-base-d.false in
-    omega (arith, fits a.base l.i c.requires.base_bound (omega arith))
+    let l = c.loop-byte in
+    let digit = c.in_ok-digit.ensures.value in
+    omega (arith, fits c.args.base l.value c.in_ok-digit.digit l.byte-index c.requires.base_bound (omega arith) l.invariant.reached (omega arith))
 
-pub loop-i-preserved : goal.loop-i-preserved
-loop-i-preserved c =
+pub loop-byte-preserved : goal.loop-byte-preserved
+loop-byte-preserved c =
     let a = c.args in
-    let l = c.loop-i in
-    let below : l.value * a.base + c.digit-d.result < a.base ^ suc l.i =
-    reach a.base l.value c.digit-d.result l.i l.invariant.1 c.if-base-d.false in (
-      omega arith,
-      rw add-one below,
-      rw (add-one, c.digit-d.ensures)
-          (l.invariant.2
-          ∙ further a.base l.value a.text.now l.i (omega arith)
-          (lt-ltb _ _ (subst (λ d. d < a.base) c.digit-d.ensures c.if-base-d.false))),
-    )
+    let l = c.loop-byte in
+    let digit = c.in_ok-digit.ensures.value in record {
+      reached = rw add-one (reach a.base l.value c.in_ok-digit.digit l.byte-index l.invariant.reached (omega arith));
+      the_rest =
+          rw (add-one, digit.1)
+          (l.invariant.the_rest ∙ further a.base l.value a.text.now l.byte-index c.requires.base_bound (omega arith) digit.0);
+    }
 
 pub returns : goal.returns
 unfolding spelled_from
 returns c =
     let a = c.args in
-    let n : c.loop-i.i ≡ length a.text.now = omega arith in
+    let l = c.loop-byte in
+    let p = eqb-false _ 0 (sym c.is_empty.ensures ∙ c.if-is_empty.false) in
+    let n : l.byte-index ≡ length a.text.now = omega arith in
+    let value =
     sym
     (within a.base a.most a.text.now (omega arith) (omega arith)
-    ∙ c.loop-i.invariant.2
-    ∙ ap (λ k. spelled_from a.base c.loop-i.value (drop k a.text.now)) n
-    ∙ ap (spelled_from a.base c.loop-i.value) (drop-length a.text.now))
+    ∙ l.invariant.the_rest
+    ∙ ap (λ k. spelled_from a.base l.value (drop k a.text.now)) n
+    ∙ ap (spelled_from a.base l.value) (drop-length a.text.now)) in record {
+      value = value;
+      below = subst (Below (a.base ^ a.most)) (sym value) (most-below a.base a.most a.text.now (omega arith));
+    }

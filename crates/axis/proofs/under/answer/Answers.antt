@@ -14,20 +14,21 @@ use Rattle.axis.proofs.under.answer.Goals as goal
 
 pub returns : goal.returns
 returns c =
-    let at_tick : SFits w32 c.args.t.position = search rules in
+    let at_tick : SFits w32 c.args.inputs.now.tick.position = search rules in
     let put : SFits w32 c.place_in-place.result.position = search rules in
     let x = c.args in
     let l = x.axis.now in
-    let bits = bits-of-tick x.t x.switches c.requires in
+    let t = x.inputs.now.tick in
+    let bits = bits-of-tick t x.inputs.now.switches x.inputs.now.same in
     rw (to_z-of_z c.ranges.torque, to_z-of_z c.ranges.speed)
-    (handed (settings_in l) x.t (driven (motion_in l) x.d.state x.d.mode x.d.alarm) x.torque x.speed
+    (handed (settings_in l) t (driven (motion_in l) x.d.state x.d.mode x.d.alarm) x.torque x.speed
     c.phase-phase.ensures
     c.is_homed.ensures
     c.command_target-followed.ensures
     c.home.ensures
-    (read32 c.place_in-place.result.position put.sfits ∙ c.place_in-place.ensures.position ∙ rw (read32 c.home.result c.home.type_inv, read32 x.t.position at_tick.sfits))
+    (read32 c.place_in-place.result.position put.sfits ∙ c.place_in-place.ensures.position ∙ rw (read32 c.home.result c.home.type_inv, read32 t.position at_tick.sfits))
     c.place_in-place.ensures.clamped
-    c.following-following.ensures
+    c.is_some-following.ensures
     (c.limit_active-limited.ensures ∙ rw (c.positive_on-positive.ensures ∙ ap (λ (y : Switches). y.positive) bits, c.negative_on-negative.ensures ∙ ap (λ (y : Switches). y.negative) bits))
     (read32 c.number.result c.number.type_inv ∙ c.number.ensures)
     c.statusword.ensures)

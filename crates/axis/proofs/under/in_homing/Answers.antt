@@ -14,11 +14,11 @@ use Rattle.axis.proofs.under.in_homing.Goals as goal
 
 pub returns-then-rising : goal.returns-then-rising
 returns-then-rising c =
-    let at_tick : SFits w32 c.args.t.position = search rules in
+    let at_tick : SFits w32 c.args.inputs.now.tick.position = search rules in
     let l = c.args.axis.now in
-    let t = c.args.t in
+    let t = c.args.inputs.now.tick in
     let rising = sym (c.rising.ensures ∙ ap (λ (n : ℕ). bit_rises n t.control 4) c.control.ensures) ∙ c.if-rising.true in
-    let switches = bits-of-tick t c.args.switches c.requires in
+    let switches = bits-of-tick t c.args.inputs.now.switches c.args.inputs.now.same in
     arrives l t c.settle.new.axis _ (phase_of c.start-started.result)
     (starts l t c.method-method.ensures rising switches c.start-started.ensures)
     c.bit-halted.ensures
@@ -30,6 +30,6 @@ returns-then-rising c =
 pub returns-else-is_running : goal.returns-else-is_running
 returns-else-is_running c =
     let b = c.args in
-    let rising = sym (c.rising.ensures ∙ ap (λ (n : ℕ). bit_rises n b.t.control 4) c.control.ensures) ∙ c.if-rising.false in
+    let rising = sym (c.rising.ensures ∙ ap (λ (n : ℕ). bit_rises n b.inputs.now.tick.control 4) c.control.ensures) ∙ c.if-rising.false in
     let running = sym (c.is_running.ensures ∙ ap running_in c.phase-phase.ensures) ∙ c.if-is_running.false in
-    rests b.axis.now b.t rising running
+    rests b.axis.now b.inputs.now.tick rising running

@@ -11,15 +11,16 @@ use Rattle.axis.proofs.under.seen.Goals as goal
 
 pub returns : goal.returns
 returns c =
-    let at_tick : SFits w32 c.args.t.position = search rules in
+    let at_tick : SFits w32 c.args.inputs.now.tick.position = search rules in
     let b = c.args in
+    let i = b.inputs.now in
     let a = motion_in b.axis.now in
     seen_as
-    b.t
+    i.tick
     a.switches
     a.position
     c.bit.ensures
     c.bit-2.ensures
-    (c.moved-movement.ensures ∙ rw (read32 b.t.position at_tick.sfits, read32 c.position.result c.position.type_inv, c.position.ensures))
+    (c.moved-movement.ensures ∙ rw (read32 i.tick.position at_tick.sfits, read32 c.position.result c.position.type_inv, c.position.ensures))
     c.switches.ensures
-    (bits-of-tick b.t b.switches c.requires)
+    (bits-of-tick i.tick i.switches i.same)

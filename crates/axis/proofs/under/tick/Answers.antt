@@ -31,7 +31,7 @@ returns c =
     c.put_drive.ensures
     c.homing_on.ensures
     c.homing_after-speed.ensures
-    (bits-of-tick t c.switch_bits-bits.result c.switch_bits-bits.ensures)
+    (bits-of-tick t c.from.result c.from.ensures)
     (read32 t.position at_tick.sfits)
     c.put_inputs.ensures
     (c.answer.ensures ∙ rw (read32 c.torque_in-torque.result c.torque_in-torque.type_inv, read32 c.homing_after-speed.result c.homing_after-speed.type_inv))

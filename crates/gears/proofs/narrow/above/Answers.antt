@@ -28,7 +28,7 @@ returns c =
     let p = c.product-p in
     let s = c.args in
     let e : p.result ≡ s.units * s.numerator = omega arith in
-    let small : c.over.result < 2 ^ 31 = omega (arith, c.over.ensures, div-le_self p.result c.divisor.result) in
+    let small : c.over.result < 2 ^ 31 = omega (arith, c.over.ensures, div-le_self p.result c.divisor.result.value) in
     rw (
       to_z_pos w32 small,
       c.over.ensures,

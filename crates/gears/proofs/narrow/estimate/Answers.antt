@@ -4,4 +4,4 @@ use Rattle.gears.proofs.Halves.{never-more}
 use Rattle.gears.proofs.narrow.estimate.Goals as goal
 
 pub returns : goal.returns
-returns c = never-more c.args.p c.args.d c.reciprocal-r.result c.reciprocal-r.ensures
+returns c = never-more c.args.p c.args.d.value c.reciprocal-r.result c.reciprocal-r.ensures

@@ -20,17 +20,17 @@ floor-below (suc p) d h = ap (λ (k : ℕ). negsuc (k / d)) (omega arith)
 -- what over gave
 module _ (c : goal.After-over) where
   fits : SFits w32 (pos c.over.result)
-  fits = omega (arith, c.over.ensures, div-le_self (c.args.p - 1) c.args.d)
+  fits = omega (arith, c.over.ensures, div-le_self (c.args.p - 1) c.args.d.value)
 
   read : to_z w32 c.over.result ≡ pos c.over.result
   read = to_z_pos w32 fits.sfits
 
 pub returns-then-p-eq0 : goal.returns-then-p-eq0
 unfolding floor_div
-returns-then-p-eq0 c = rw (c.if-p-eq0.true, zero-div c.args.d)
+returns-then-p-eq0 c = rw (c.if-p-eq0.true, zero-div c.args.d.value)
 
 pub returns-else-p-eq0 : goal.returns-else-p-eq0
 returns-else-p-eq0 c =
     let s = c.args in
     let f : SFits w32 (negsuc c.over.result) = omega (arith, (fits c).sfits) in
-    rw (read c, mirror-up, to_z-of_z f, c.over.ensures) (floor-below s.p s.d (omega arith))
+    rw (read c, mirror-up, to_z-of_z f, c.over.ensures) (floor-below s.p s.d.value (omega arith))
