@@ -40,7 +40,7 @@ pub struct Word<'a> {
 }
 
 // A text, and the place from which its next word is looked for. Each reading moves past the words that it takes, also past one that it does not accept.
-#[derive(Drop)]
+#[derive(Clone, Drop)]
 pub struct Cursor<'a> {
     pub text: &'a [u8],
     pub at: usize,

@@ -4,10 +4,15 @@ use Rattle.std.specs.Prelude.{ℕ, ◌+◌, ◌-◌, ◌≤◌, Bool, cond, List
 use Rattle.scan.specs.Bytes.{index_of}
 use Rattle.gather.specs.declared.Held.{Held}
 
--- of a line, the bytes bs have come: a buffer holds as many of them as it has room for
-pub record Holds {room : ℕ} (h : Held room) (bs : List ℕ) : Type 0 where
-  pub count : h.length ≡ cond (ltb (length h.bytes) (length bs)) None (Some (length bs))
-  pub bytes : take (length bs) h.bytes ≡ take (length h.bytes) bs
+-- of a line, the bytes bs have come: a buffer keeps as many of them as it has room for, and beside it stands how many they are, or none where there
+-- were more than that
+pub record Keeps (line : List ℕ) (came : Option ℕ) (bs : List ℕ) : Type 0 where
+  pub count : came ≡ cond (ltb (length line) (length bs)) None (Some (length bs))
+  pub bytes : take (length bs) line ≡ take (length line) bs
+
+-- the same of a buffer with its count
+abbrev pub Holds : {room : ℕ} → Held room → List ℕ → Type 0
+Holds h bs = Keeps h.bytes h.length bs
 
 -- what a chunk adds to the line: the bytes up to the next LF
 abbrev pub part_of : List ℕ → List ℕ

@@ -2,7 +2,7 @@
 #![tactic(auto)]
 
 ghost use Rattle.std.specs.Prelude.{List, ◌∷◌, [], ◌++◌, ℕ, ◌<◌, ◌≤◌, ◌≡◌, length, IfSome, option_copied};
-ghost use Rattle.gather.specs.Lines.{Holds, part_of, rest_of, without_cr, ended_in, InsideBuffer};
+ghost use Rattle.gather.specs.Lines.{Keeps, Holds, part_of, rest_of, without_cr, ended_in, InsideBuffer};
 
 // A line that has not ended.
 // Kept: a buffer with a length beside it, since the project takes no heap, and so no Vec.
@@ -19,6 +19,46 @@ fn without_cr(line: &[u8]) -> &[u8]
     ensures no_longer { length result.now ≤ length line.now }
 {
     line.strip_suffix(b"\r").unwrap_or(line)
+}
+
+// Keeps one byte more, where the buffer has room for it.
+fn push(line: &mut [u8], came: Option<usize>, byte: u8) -> Option<usize>
+    ensures line_len_unchanged { length line.new ≡ length line.old }
+    ensures keeps { (bs : List ℕ) → Keeps line.old came bs → Keeps line.new result (bs ++ (byte ∷ [])) }
+{
+    match came {
+        Some(at) if at < line.len() => {
+            line[at] = byte;
+            Some(at + 1)
+        }
+        _ => None,
+    }
+}
+
+// Takes a chunk up to the line's end and with it, into a buffer of any length: what follows that end, or none where the line goes on past the chunk.
+pub fn take<'a>(chunk: &'a [u8], line: &mut [u8], came: &mut Option<usize>) -> Option<&'a [u8]>
+    ensures line_len_unchanged { length line.new ≡ length line.old }
+    ensures rest { option_copied result ≡ rest_of chunk.now }
+    ensures shorter { IfSome result (λ rest. length rest.now < length chunk.now) }
+    ensures keeps { (bs : List ℕ) → Keeps line.old came.old bs → Keeps line.new came.new (bs ++ part_of chunk.now) }
+{
+    for (i, byte) in chunk.iter().enumerate() {
+        if *byte == b'\n' {
+            return Some(&chunk[i + 1..]);
+        }
+        *came = push(line, *came, *byte);
+    }
+    None
+}
+
+// The text of a line that has ended, without a CR right before its end; none where it is too long.
+pub fn text(line: &[u8], came: Option<usize>) -> Option<&[u8]>
+    ensures inside_buffer { InsideBuffer (option_copied result) (length line.now) }
+    ensures by_bytes { (bs : List ℕ) → Keeps line.now came bs → option_copied result ≡ ended_in (length line.now) bs }
+{
+    let kept = line.get(..came?)?;
+    let text = without_cr(kept);
+    if text.len() < 256 { Some(text) } else { None }
 }
 
 impl<const ROOM: usize> Held<ROOM> {
@@ -39,40 +79,20 @@ impl<const ROOM: usize> Held<ROOM> {
         self.length = Some(0);
     }
 
-    fn push(&mut self, byte: u8)
-        ensures { (bs : List ℕ) → Holds self.old bs → Holds self.new (bs ++ (byte ∷ [])) }
-    {
-        self.length = match self.length {
-            Some(at) if at < ROOM => {
-                self.bytes[at] = byte;
-                Some(at + 1)
-            }
-            _ => None,
-        };
-    }
-
-    // Takes a chunk up to the line's end and with it: what follows that end, or none where the line goes on past the chunk.
+    // `take` into this buffer.
     pub fn take<'a>(&mut self, chunk: &'a [u8]) -> Option<&'a [u8]>
         ensures rest { option_copied result ≡ rest_of chunk.now }
         ensures shorter { IfSome result (λ rest. length rest.now < length chunk.now) }
         ensures holds { (bs : List ℕ) → Holds self.old bs → Holds self.new (bs ++ part_of chunk.now) }
     {
-        for (i, byte) in chunk.iter().enumerate() {
-            if *byte == b'\n' {
-                return Some(&chunk[i + 1..]);
-            }
-            self.push(*byte);
-        }
-        None
+        take(chunk, &mut self.bytes, &mut self.length)
     }
 
-    // The text of a line that has ended, without a CR right before its end; none where it is too long.
+    // `text` of this buffer.
     pub fn text(&self) -> Option<&[u8]>
         ensures inside_buffer { InsideBuffer (option_copied result) ROOM }
         ensures by_bytes { (bs : List ℕ) → Holds self.now bs → option_copied result ≡ ended_in ROOM bs }
     {
-        let held = self.bytes.get(..self.length?)?;
-        let text = without_cr(held);
-        if text.len() < 256 { Some(text) } else { None }
+        text(&self.bytes, self.length)
     }
 }
