@@ -42,12 +42,16 @@ pub fn take<'a>(chunk: &'a [u8], line: &mut [u8], came: &mut Option<usize>) -> O
     ensures shorter { IfSome result (λ rest. length rest.now < length chunk.now) }
     ensures keeps { (bs : List ℕ) → Keeps line.old came.old bs → Keeps line.new came.new (bs ++ part_of chunk.now) }
 {
+    // By value from byte to byte, so that it stays in registers.
+    let mut kept = *came;
     for (i, byte) in chunk.iter().enumerate() {
         if *byte == b'\n' {
+            *came = kept;
             return Some(&chunk[i + 1..]);
         }
-        *came = push(line, *came, *byte);
+        kept = push(line, kept, *byte);
     }
+    *came = kept;
     None
 }
 

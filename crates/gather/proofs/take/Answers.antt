@@ -14,19 +14,19 @@ pub returns-then-byte-eq10-clause-keeps : goal.returns-then-byte-eq10-clause-kee
 returns-then-byte-eq10-clause-keeps c =
     let l = c.loop-i in
     λ bs k.
-    subst (λ j. Keeps l.line l.came (bs ++ take j c.args.chunk.now)) (here c.args.chunk.now l.i l.invariant.place c.loop-i-test.true c.if-byte-eq10.true) (l.invariant.keeps bs k)
+    subst (λ j. Keeps l.line l.kept (bs ++ take j c.args.chunk.now)) (here c.args.chunk.now l.i l.invariant.place c.loop-i-test.true c.if-byte-eq10.true) (l.invariant.keeps bs k)
 
 pub loop-i-preserved : goal.loop-i-preserved
 loop-i-preserved c =
     let l = c.loop-i in
     let z = before-lf c.args.chunk.now l.i c.loop-i-test.true c.if-byte-eq10.false in record {
       place = rw add-one (omega arith);
-      room = omega (arith, l.invariant.room, c.push.ensures.line_len_unchanged);
-      keeps = λ bs k. rw add-one (subst (Keeps _ _) (one_more bs c.args.chunk.now l.i c.loop-i-test.true) (c.push.ensures.keeps (bs ++ take l.i c.args.chunk.now) (l.invariant.keeps bs k)));
+      room = omega (arith, l.invariant.room, c.push-kept.ensures.line_len_unchanged);
+      keeps = λ bs k. rw add-one (subst (Keeps _ _) (one_more bs c.args.chunk.now l.i c.loop-i-test.true) (c.push-kept.ensures.keeps (bs ++ take l.i c.args.chunk.now) (l.invariant.keeps bs k)));
     }
 
 pub returns-clause-keeps : goal.returns-clause-keeps
 returns-clause-keeps c =
     let l = c.loop-i in
     λ bs k.
-    subst (λ j. Keeps l.line l.came (bs ++ take j c.args.chunk.now)) (nowhere c.args.chunk.now l.i l.invariant.place (omega arith)) (l.invariant.keeps bs k)
+    subst (λ j. Keeps l.line l.kept (bs ++ take j c.args.chunk.now)) (nowhere c.args.chunk.now l.i l.invariant.place (omega arith)) (l.invariant.keeps bs k)

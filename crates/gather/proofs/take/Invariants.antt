@@ -10,5 +10,5 @@ invariant-loop-i l =
     record {
       place : index_of 10 l.chunk ≡ l.i + index_of 10 (drop l.i l.chunk);
       room : length l.line ≡ length l.initial.line;
-      keeps : (bs : List ℕ) → Keeps l.initial.line l.initial.came bs → Keeps l.line l.came (bs ++ take l.i l.chunk);
+      keeps : (bs : List ℕ) → Keeps l.initial.line l.initial.came bs → Keeps l.line l.kept (bs ++ take l.i l.chunk);
     }
