@@ -3,6 +3,7 @@
 
 ghost use Rattle.std.specs.Prelude.{◌≡◌};
 ghost use Rattle.cursors.specs.Names.{meaning_of};
+ghost use Rattle.cursors.specs.Place.{place_of};
 ghost use Rattle.choices.specs.Choices.{at_read, stills, standstill_read, sets, set_read, switches_read};
 ghost use Rattle.choices.specs.Switches.{switch_shown, switches_shown};
 
@@ -13,7 +14,7 @@ use torque::LimitSet;
 // The word `at`.
 #[tactic(auto, unfolding(crate::specs::Choices::at_read))]
 pub fn at(cursor: &mut Cursor<'_>) -> Result<(), Trouble>
-    ensures { (result, cursor.new) ≡ at_read cursor.old }
+    ensures { (result, place_of cursor.new) ≡ at_read (place_of cursor.old) }
 {
     let word = cursor.next();
     word.judge(word.bytes == b"at".as_slice(), Expected::At)
@@ -31,7 +32,7 @@ fn still(name: &str) -> Option<bool>
 
 // Whether the axis stands still.
 pub fn standstill(cursor: &mut Cursor<'_>) -> Result<bool, Trouble>
-    ensures { (result, cursor.new) ≡ standstill_read cursor.old }
+    ensures { (result, place_of cursor.new) ≡ standstill_read (place_of cursor.old) }
 {
     let word = cursor.next();
     still(word.name()).ok_or(word.trouble(Expected::Standstill))
@@ -48,7 +49,7 @@ fn limit_set(name: &str) -> Option<LimitSet>
 }
 
 pub fn set(cursor: &mut Cursor<'_>) -> Result<LimitSet, Trouble>
-    ensures { (result, cursor.new) ≡ set_read cursor.old }
+    ensures { (result, place_of cursor.new) ≡ set_read (place_of cursor.old) }
 {
     let word = cursor.next();
     limit_set(word.name()).ok_or(word.trouble(Expected::Set))
@@ -84,7 +85,7 @@ fn four_switches(word: &[u8]) -> Option<Switches>
 // POT, NOT, HOM and Z, each as its letter or `-`.
 #[tactic(auto, unfolding(crate::specs::Choices::switches_read))]
 pub fn switches(cursor: &mut Cursor<'_>) -> Result<Switches, Trouble>
-    ensures { (result, cursor.new) ≡ switches_read cursor.old }
+    ensures { (result, place_of cursor.new) ≡ switches_read (place_of cursor.old) }
 {
     let word = cursor.next();
     four_switches(word.bytes).ok_or(word.trouble(Expected::Switches))

@@ -1,12 +1,17 @@
 -- A place in a line's text, and the next word from it on.
 -- Assumes nothing.
 use Rattle.std.specs.Prelude.{ℕ, Bool, List, eqb, length}
+use Rattle.cursors.specs.declared.Cursor.{Cursor}
 use Rattle.tokens.specs.declared.Span.{Span}
 use Rattle.tokens.specs.Words.{next_word, bytes_of}
 
 pub record Place : Type 0 where
   pub text : List ℕ
   pub at : ℕ
+
+-- where a cursor is
+abbrev pub place_of : Cursor → Place
+place_of c = record { text = c.text.now; at = c.at }
 
 abbrev pub line_start : List ℕ → Place
 line_start text = record { text = text; at = 0 }

@@ -3,11 +3,9 @@
 
 ghost use Rattle.std.specs.Prelude.{◌≡◌};
 ghost use Rattle.cursors.specs.Names.{name_of};
-ghost use Rattle.cursors.specs.Place.{line_start, span_at, bytes_at, past, at_end};
+ghost use Rattle.cursors.specs.Place.{place_of, line_start, span_at, bytes_at, past, at_end};
 ghost use Rattle.cursors.specs.Trouble.{trouble_at};
 ghost use Rattle.cursors.specs.Reading.{judged, end_read};
-
-use std::marker::Model;
 
 // What a line was to have where it cannot be read further.
 #[derive(Clone, Copy)]
@@ -40,18 +38,10 @@ pub struct Word<'a> {
 }
 
 // A text, and the place from which its next word is looked for. Each reading moves past the words that it takes, also past one that it does not accept.
-#[derive(Clone, Drop)]
+#[derive(Clone, Copy)]
 pub struct Cursor<'a> {
     pub text: &'a [u8],
     pub at: usize,
-}
-
-impl<'a> Model for Cursor<'a> {
-    ghost use Rattle.cursors.specs.Place.{Place};
-
-    ghost Value = { Place };
-
-    ghost view = { λ c. record { text = c.text.now; at = c.at } };
 }
 
 impl Word<'_> {
@@ -89,16 +79,16 @@ impl Word<'_> {
 
 impl<'a> Cursor<'a> {
     pub fn new(text: &'a [u8]) -> Cursor<'a>
-        ensures { result ≡ line_start text.now }
+        ensures { place_of result ≡ line_start text.now }
     {
         Cursor { text, at: 0 }
     }
 
     // The next word, and past it.
     pub fn next(&mut self) -> Word<'a>
-        ensures at { result.at ≡ (span_at self.old).start }
-        ensures bytes { result.bytes.now ≡ bytes_at self.old }
-        ensures moved { self.new ≡ past self.old }
+        ensures at { result.at ≡ (span_at (place_of self.old)).start }
+        ensures bytes { result.bytes.now ≡ bytes_at (place_of self.old) }
+        ensures moved { place_of self.new ≡ past (place_of self.old) }
     {
         let word = tokens::next(self.text, self.at);
         self.at = word.end;
@@ -110,7 +100,7 @@ impl<'a> Cursor<'a> {
 
     // Whether no word is left.
     pub fn at_end(&self) -> bool
-        ensures { result ≡ at_end self.now }
+        ensures { result ≡ at_end (place_of self.now) }
     {
         let word = tokens::next(self.text, self.at);
         word.start == self.text.len()
@@ -119,7 +109,7 @@ impl<'a> Cursor<'a> {
     // Accepted where no word is left.
     #[tactic(auto, unfolding(crate::specs::Reading::end_read))]
     pub fn end(&mut self) -> Result<(), Trouble>
-        ensures { (result, self.new) ≡ end_read self.old }
+        ensures { (result, place_of self.new) ≡ end_read (place_of self.old) }
     {
         let accepted = self.at_end();
         self.next().judge(accepted, Expected::End)

@@ -7,6 +7,7 @@ mod tick_line;
 
 ghost use Rattle.std.specs.Prelude.{◌≡◌};
 ghost use Rattle.cursors.specs.Names.{meaning_of};
+ghost use Rattle.cursors.specs.Place.{place_of};
 ghost use Rattle.cursors.specs.Reading.{refused};
 ghost use Rattle.lines.specs.Lines.{openings, opened_read, content_read, content_of, line_of};
 ghost use Rattle.lines.specs.Trouble.{column_told};
@@ -66,7 +67,7 @@ fn named(
     unknown: cursors::Trouble,
     cursor: &mut Cursor<'_>,
 ) -> Result<Line, cursors::Trouble>
-    ensures { (result, cursor.new) ≡ meaning_of name.now openings (refused unknown) cursor.old }
+    ensures { (result, place_of cursor.new) ≡ meaning_of name.now openings (refused unknown) (place_of cursor.old) }
 {
     match name {
         "word" => Ok(Line::Word(scanner::hexadecimal8(cursor)?)),
@@ -83,7 +84,7 @@ fn named(
 }
 
 fn opened(cursor: &mut Cursor<'_>) -> Result<Line, cursors::Trouble>
-    ensures { (result, cursor.new) ≡ opened_read cursor.old }
+    ensures { (result, place_of cursor.new) ≡ opened_read (place_of cursor.old) }
 {
     let word = cursor.next();
     named(word.name(), word.trouble(Expected::Keyword), cursor)
@@ -92,7 +93,7 @@ fn opened(cursor: &mut Cursor<'_>) -> Result<Line, cursors::Trouble>
 // A line that has a word, to its end.
 #[tactic(auto, unfolding(crate::specs::Lines::content_read))]
 fn content(cursor: &mut Cursor<'_>) -> Result<Line, cursors::Trouble>
-    ensures { (result, cursor.new) ≡ content_read cursor.old }
+    ensures { (result, place_of cursor.new) ≡ content_read (place_of cursor.old) }
 {
     let line = opened(cursor)?;
     cursor.end()?;

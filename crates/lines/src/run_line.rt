@@ -1,5 +1,6 @@
 // A run's words: START TICKS.
 ghost use Rattle.std.specs.Prelude.{◌≡◌};
+ghost use Rattle.cursors.specs.Place.{place_of};
 ghost use Rattle.lines.specs.Runs.{trial_read};
 
 use crate::Trial;
@@ -8,7 +9,7 @@ use scanner::{unsigned, whole32};
 
 #[tactic(auto, unfolding(crate::specs::Runs::trial_read))]
 pub fn trial(cursor: &mut Cursor<'_>) -> Result<Trial, Trouble>
-    ensures { (result, cursor.new) ≡ trial_read cursor.old }
+    ensures { (result, place_of cursor.new) ≡ trial_read (place_of cursor.old) }
 {
     Ok(Trial {
         start: whole32(cursor)?,

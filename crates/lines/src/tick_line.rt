@@ -1,5 +1,6 @@
 // A tick's words: HEX4 COMMAND at I32 SWITCHES STILL SET HEX8.
 ghost use Rattle.std.specs.Prelude.{◌≡◌};
+ghost use Rattle.cursors.specs.Place.{place_of};
 ghost use Rattle.lines.specs.Ticks.{tick_read};
 
 use cursors::{Cursor, Trouble};
@@ -7,7 +8,7 @@ use ticks::Tick;
 
 #[tactic(auto, unfolding(crate::specs::Ticks::tick_read))]
 pub fn tick(cursor: &mut Cursor<'_>) -> Result<Tick, Trouble>
-    ensures { (result, cursor.new) ≡ tick_read cursor.old }
+    ensures { (result, place_of cursor.new) ≡ tick_read (place_of cursor.old) }
 {
     let control = scanner::hexadecimal4(cursor)?;
     let command = orders::command(cursor)?;

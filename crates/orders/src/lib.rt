@@ -3,6 +3,7 @@
 
 ghost use Rattle.std.specs.Prelude.{◌≡◌};
 ghost use Rattle.cursors.specs.Names.{meaning_of};
+ghost use Rattle.cursors.specs.Place.{place_of};
 ghost use Rattle.cursors.specs.Reading.{refused};
 ghost use Rattle.orders.specs.Orders.{hybrid_read, commands, command_read};
 
@@ -14,7 +15,7 @@ use scanner::{float, whole16, whole32};
 // KP KD PD VD T P V.
 #[tactic(auto, unfolding(crate::specs::Orders::hybrid_read))]
 fn floats(cursor: &mut Cursor<'_>) -> Result<Hybrid, Trouble>
-    ensures { (result, cursor.new) ≡ hybrid_read cursor.old }
+    ensures { (result, place_of cursor.new) ≡ hybrid_read (place_of cursor.old) }
 {
     Ok(Hybrid {
         kp: float(cursor)?,
@@ -29,7 +30,7 @@ fn floats(cursor: &mut Cursor<'_>) -> Result<Hybrid, Trouble>
 
 // A command by its name, with what comes after it.
 fn named(name: &str, unknown: Trouble, cursor: &mut Cursor<'_>) -> Result<Command, Trouble>
-    ensures { (result, cursor.new) ≡ meaning_of name.now commands (refused unknown) cursor.old }
+    ensures { (result, place_of cursor.new) ≡ meaning_of name.now commands (refused unknown) (place_of cursor.old) }
 {
     match name {
         "hybrid" => Ok(Command::Hybrid(floats(cursor)?)),
@@ -42,7 +43,7 @@ fn named(name: &str, unknown: Trouble, cursor: &mut Cursor<'_>) -> Result<Comman
 }
 
 pub fn command(cursor: &mut Cursor<'_>) -> Result<Command, Trouble>
-    ensures { (result, cursor.new) ≡ command_read cursor.old }
+    ensures { (result, place_of cursor.new) ≡ command_read (place_of cursor.old) }
 {
     let word = cursor.next();
     named(word.name(), word.trouble(Expected::Command), cursor)

@@ -3,6 +3,7 @@
 #![tactic(auto)]
 
 ghost use Rattle.std.specs.Prelude.{◌≡◌, true};
+ghost use Rattle.cursors.specs.Place.{place_of};
 ghost use Rattle.sheets.specs.Sheets.{sheet_words_read, homing_torque_read, settings_read, fields_read, sheet_read, layout_read};
 
 use cursors::{Cursor, Trouble};
@@ -20,7 +21,7 @@ pub struct Writing {
 // METHOD .. RATED; the homing torque is MAX.
 #[tactic(auto, unfolding(crate::specs::Sheets::sheet_words_read))]
 fn sheet_words(cursor: &mut Cursor<'_>) -> Result<Settings, Trouble>
-    ensures { (result, cursor.new) ≡ sheet_words_read cursor.old }
+    ensures { (result, place_of cursor.new) ≡ sheet_words_read (place_of cursor.old) }
 {
     let method = unsigned(cursor)?;
     let fast = unsigned(cursor)?;
@@ -54,7 +55,7 @@ fn sheet_words(cursor: &mut Cursor<'_>) -> Result<Settings, Trouble>
 // HOMING, on a line that is allowed it; where it is left out it is MAX.
 #[tactic(auto, unfolding(crate::specs::Sheets::homing_torque_read))]
 fn homing_torque(allowed: bool, maximum: u32, cursor: &mut Cursor<'_>) -> Result<u32, Trouble>
-    ensures { (result, cursor.new) ≡ homing_torque_read allowed maximum cursor.old }
+    ensures { (result, place_of cursor.new) ≡ homing_torque_read allowed maximum (place_of cursor.old) }
 {
     if allowed && !cursor.at_end() {
         unsigned(cursor)
@@ -66,7 +67,7 @@ fn homing_torque(allowed: bool, maximum: u32, cursor: &mut Cursor<'_>) -> Result
 // METHOD .. RATED, and HOMING on a line that is allowed it.
 #[tactic(auto, unfolding(crate::specs::Sheets::settings_read))]
 fn settings_words(allowed: bool, cursor: &mut Cursor<'_>) -> Result<Settings, Trouble>
-    ensures { (result, cursor.new) ≡ settings_read allowed cursor.old }
+    ensures { (result, place_of cursor.new) ≡ settings_read allowed (place_of cursor.old) }
 {
     let sheet = sheet_words(cursor)?;
     let homing = homing_torque(allowed, sheet.maximum, cursor)?;
@@ -76,7 +77,7 @@ fn settings_words(allowed: bool, cursor: &mut Cursor<'_>) -> Result<Settings, Tr
 // LENGTH, and the settings.
 #[tactic(auto, unfolding(crate::specs::Sheets::fields_read))]
 fn fields(allowed: bool, layout: u32, cursor: &mut Cursor<'_>) -> Result<Writing, Trouble>
-    ensures { (result, cursor.new) ≡ fields_read allowed layout cursor.old }
+    ensures { (result, place_of cursor.new) ≡ fields_read allowed layout (place_of cursor.old) }
 {
     Ok(Writing {
         layout,
@@ -87,21 +88,21 @@ fn fields(allowed: bool, layout: u32, cursor: &mut Cursor<'_>) -> Result<Writing
 
 // The settings of later runs; HOMING may come last.
 pub fn settings(cursor: &mut Cursor<'_>) -> Result<Settings, Trouble>
-    ensures { (result, cursor.new) ≡ settings_read true cursor.old }
+    ensures { (result, place_of cursor.new) ≡ settings_read true (place_of cursor.old) }
 {
     settings_words(true, cursor)
 }
 
 // A sheet line writes layout 1, and has no HOMING.
 pub fn sheet(cursor: &mut Cursor<'_>) -> Result<Writing, Trouble>
-    ensures { (result, cursor.new) ≡ sheet_read cursor.old }
+    ensures { (result, place_of cursor.new) ≡ sheet_read (place_of cursor.old) }
 {
     fields(false, 1, cursor)
 }
 
 // LAYOUT, what a sheet line has, and HOMING, or none.
 pub fn layout(cursor: &mut Cursor<'_>) -> Result<Writing, Trouble>
-    ensures { (result, cursor.new) ≡ layout_read cursor.old }
+    ensures { (result, place_of cursor.new) ≡ layout_read (place_of cursor.old) }
 {
     let layout = unsigned(cursor)?;
     fields(true, layout, cursor)

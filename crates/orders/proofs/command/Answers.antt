@@ -1,6 +1,7 @@
 -- `orders::command` meets its contract: a word means what its name means.
 -- Assumes nothing.
 use Rattle.std.proofs.Common.{refl}
+use Rattle.cursors.specs.Place.{place_of}
 use Rattle.cursors.specs.declared.Expected.TheVariants.{Command}
 use Rattle.cursors.proofs.Texts.{read_by_name}
 use Rattle.orders.specs.Orders.{commands, command_read}
@@ -10,4 +11,4 @@ pub returns : goal.returns
 unfolding command_read
 returns c =
     let word = c.next-word.ensures in
-    read_by_name c.args.cursor.now commands Command refl c.named.ensures c.name.ensures c.trouble.ensures word.at word.bytes word.moved
+    read_by_name (place_of c.args.cursor.now) commands Command refl c.named.ensures c.name.ensures c.trouble.ensures word.at word.bytes word.moved
