@@ -16,20 +16,20 @@ use std::env::{Env, FillError};
 use std::io;
 use std::io::{Input, Read, Write};
 
-// What an argument is answered.
-const USAGE: &str = "\
-It takes no arguments: it answers lines of standard input, one by one.
-  word HEX8
-  tick HEX4 COMMAND at I32 SWITCHES STILL SET HEX8
-  sheet LENGTH METHOD FAST SLOW OFFSET NUM DEN LOWER UPPER MAX P1 N1 P2 N2 OPTION RATED
-  layout LAYOUT LENGTH METHOD FAST SLOW OFFSET NUM DEN LOWER UPPER MAX P1 N1 P2 N2 OPTION RATED [HOMING]
-  fresh
-  settings METHOD FAST SLOW OFFSET NUM DEN LOWER UPPER MAX P1 N1 P2 N2 OPTION RATED [HOMING]
-  rail CELLS CAM WIDTH FAST SLOW
-  run START TICKS
-  picture START TICKS
-docs/LINES.md says what each word of a line means.
-";
+// What an argument is answered, a line a write.
+const USAGE: [&str; 11] = [
+    "It takes no arguments: it answers lines of standard input, one by one.\n",
+    "  word HEX8\n",
+    "  tick HEX4 COMMAND at I32 SWITCHES STILL SET HEX8\n",
+    "  sheet LENGTH METHOD FAST SLOW OFFSET NUM DEN LOWER UPPER MAX P1 N1 P2 N2 OPTION RATED\n",
+    "  layout LAYOUT LENGTH METHOD FAST SLOW OFFSET NUM DEN LOWER UPPER MAX P1 N1 P2 N2 OPTION RATED [HOMING]\n",
+    "  fresh\n",
+    "  settings METHOD FAST SLOW OFFSET NUM DEN LOWER UPPER MAX P1 N1 P2 N2 OPTION RATED [HOMING]\n",
+    "  rail CELLS CAM WIDTH FAST SLOW\n",
+    "  run START TICKS\n",
+    "  picture START TICKS\n",
+    "docs/LINES.md says what each word of a line means.\n",
+];
 
 // A session, and the line that has not ended yet.
 #[derive(Drop)]
@@ -169,7 +169,10 @@ fn has_argument(rt: &impl Env) -> bool {
 // The program itself. An argument is answered by what the program is for.
 pub fn run(rt: &(impl Env + Input + Print)) -> io::Result<()> {
     if has_argument(rt) {
-        rt.write_all(USAGE.as_bytes())
+        for line in USAGE {
+            rt.write_all(line.as_bytes())?;
+        }
+        Ok(())
     } else {
         converse(&mut rt.reader(), io::writer(rt))?;
         Ok(())

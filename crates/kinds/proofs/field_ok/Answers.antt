@@ -1,31 +1,25 @@
--- `kinds::field_ok` meets its contract: each arm settles its place in the table, or its two.
+-- `kinds::field_ok` meets its contract: each arm settles its place in the table.
 -- Assumes nothing.
-use Prim.Native.Nat.{ℕ, ◌+◌, ◌≤◌, ◌<◌}
-use mathlib.Core.Path.{◌≡◌, refl, sym, ◌∙◌}
-use mathlib.Core.Bool.{Bool, true, false}
+use Prim.Native.Nat.{ℕ, ◌≤◌}
+use mathlib.Core.Path.{◌≡◌, ap, sym}
+use mathlib.Core.Bool.{Bool, false}
 use native.Mathlib.Omega.{arith}
-use borrow.Author.Tests.{eqb-true, eqb-false}
-use lib.Dec.{eqb}
-use Rattle.ranges.specs.Range.{speed_ok, ratio_ok}
-use Rattle.kinds.specs.Fields.{torque_limits_ok, field_ok}
+use lib.ListN.{get_or-eq_default}
+use Rattle.kinds.specs.Fields.{fields, field_ok}
 use Rattle.kinds.proofs.field_ok.Goals as goal
 
--- a kind of two neighbours that may carry the same
-either : (layout kind x n : ℕ) (b : Bool) → n ≤ kind → kind < n + 2 → field_ok layout n x ≡ b → field_ok layout (n + 1) x ≡ b → field_ok layout kind x ≡ b
-either layout kind x n b h k p q = go (eqb kind n) refl
-  where
-    go : (t : Bool) → eqb kind n ≡ t → field_ok layout kind x ≡ b
-    go true e = rw (eqb-true kind n e) p
-    go false e = let d : kind ≡ n + 1 = omega (arith, eqb-false kind n e) in rw d q
+-- past the table
+past : (layout kind x : ℕ) → 15 ≤ kind → field_ok layout kind x ≡ false
+unfolding field_ok
+past layout kind x h = ap (λ (f : ℕ → Bool). f x) (get_or-eq_default (fields layout) (λ y. false) h)
 
 pub returns-in-2 : goal.returns-in-2
 unfolding field_ok
-returns-in-2 c = let a = c.args in c.speed_ok.ensures ∙ sym (either a.layout a.kind a.value 2 (speed_ok a.value) (omega arith) (omega arith) refl refl)
+returns-in-2 c = rw (c.in-2.is, c.speed_ok.ensures)
 
-pub returns-in-5 : goal.returns-in-5
+pub returns-in-3 : goal.returns-in-3
 unfolding field_ok
-returns-in-5 c = let a = c.args in c.ratio_ok.ensures ∙ sym (either a.layout a.kind a.value 5 (ratio_ok a.value) (omega arith) (omega arith) refl refl)
+returns-in-3 c = rw (c.in-3.is, c.speed_ok-in-3.ensures)
 
-pub returns-in-10 : goal.returns-in-10
-unfolding field_ok
-returns-in-10 c = let a = c.args in c.torque_limits_ok.ensures ∙ sym (either a.layout a.kind a.value 10 (torque_limits_ok a.value) (omega arith) (omega arith) refl refl)
+pub returns-in_default : goal.returns-in_default
+returns-in_default c = sym (past c.args.layout c.args.kind c.args.value (omega arith))
