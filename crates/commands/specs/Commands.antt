@@ -17,6 +17,14 @@ mode_of (Position target request) = mode.Position
 mode_of (Torque request) = mode.Torque
 mode_of Rest = mode.None
 
+-- the target of a position command; 0 of any other, which has none
+abbrev pub target_in : Command → ℤ
+target_in (Hybrid h) = pos 0
+target_in (Homing request) = pos 0
+target_in (Position target request) = target
+target_in (Torque request) = pos 0
+target_in Rest = pos 0
+
 -- "The demand is the request, or in hybrid the value below"; rest is never matched, so what it asks for does not matter
 abbrev pub demand_of : Command → ℕ → Demand
 demand_of (Hybrid h) rated = Quotient (quotient_of h rated)

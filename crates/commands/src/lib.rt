@@ -2,7 +2,7 @@
 #![tactic(auto)]
 
 ghost use Rattle.std.specs.Prelude.{◌≡◌};
-ghost use Rattle.commands.specs.Commands.{mode_of, demand_of, alarm_of};
+ghost use Rattle.commands.specs.Commands.{mode_of, target_in, demand_of, alarm_of};
 
 use hybrid::Hybrid;
 use modes::Mode;
@@ -34,6 +34,18 @@ pub fn mode(command: Command) -> Mode
         Command::Position(_, _) => Mode::Position,
         Command::Torque(_) => Mode::Torque,
         Command::Rest => Mode::None,
+    }
+}
+
+// The target of a position command; 0 of any other.
+// Kept: 0 where there is none, and no Option. Tried: with a match on the command where the target is asked for (`ticks::command_target`) a followed target
+// took 1.17 times the instructions of the hand-written axis, past README's bar. As one value of `&`s the compiler sees what a followed target implies.
+pub fn position_target(command: Command) -> i32
+    ensures { result ≡ target_in command }
+{
+    match command {
+        Command::Position(target, _) => target,
+        _ => 0,
     }
 }
 

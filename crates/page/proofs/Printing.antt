@@ -1,7 +1,7 @@
 -- Printing in a row: text after text is the two texts in one, whatever does not fit.
 -- Assumes nothing.
-use Rattle.std.proofs.Common.{ℕ, zero, suc, ◌+◌, ◌-◌, ◌≤◌, ◌<◌, List, [], ◌∷◌, ◌++◌, ◌≡◌, refl, sym, ap, ◌∙◌, arith, add-one, length, take, drop, length-append}
-use Rattle.std.proofs.lemmas.List.{drop_all}
+use Rattle.std.proofs.Common.{ℕ, zero, suc, ◌+◌, ◌-◌, ◌≤◌, ◌<◌, List, [], ◌∷◌, ◌++◌, ◌≡◌, refl, sym, ap, ◌∙◌, arith, add-one, length, take, drop, min, length-append}
+use Rattle.std.proofs.lemmas.List.{drop_all, take_min, drop_min}
 use mathlib.Core.List.{append_assoc, append-nil}
 use lib.ListN.{set, get_or, length-drop}
 use lib.Seq.{take_all, drop-drop, take-suc, take-suc-set, drop-set-lt}
@@ -51,6 +51,10 @@ printed_byte bytes n b loan h =
     both
     (rw (add-one n) (take-suc-set bytes n b h) ∙ ap (λ r. take n bytes ++ r) (sym fits))
     (drop-set-lt (n + 1) bytes n b (omega arith) ∙ sym (drop-drop 1 n bytes))
+
+-- a place past the bytes is their end
+pub written_up_to : (bytes : List ℕ) (at n loan : ℕ) → n ≡ min at (length bytes) → written (take n bytes) (drop n bytes) loan ≡ written (take at bytes) (drop at bytes) loan
+written_up_to bytes at n loan e = rw e (both (take_min at bytes) (drop_min at bytes))
 
 -- on a full page
 pub printed_full : (bytes : List ℕ) (n loan : ℕ) (text : List ℕ) → length bytes ≤ n

@@ -12,6 +12,10 @@ seen page = record { text = take page.end page.bytes.now; room = drop page.end p
 abbrev pub blank : List ℕ → ℕ → Written
 blank room loan = record { text = []; room = room; loan = loan }
 
+-- bytes that are written up to a place
+abbrev pub written_to : ℕ → List ℕ → ℕ → Written
+written_to at bytes loan = record { text = take at bytes; room = drop at bytes; loan = loan }
+
 -- the page after `text` was printed on it: as much of it as there is room for; behind it the page is as it was
 unfoldable pub printed : Written → List ℕ → Written
 printed page text = record { text = page.text ++ take (length page.room) text; room = drop (length text) page.room; loan = page.loan }

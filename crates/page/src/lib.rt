@@ -21,13 +21,21 @@ pub struct Page<'a> {
 
 impl<'a> Page<'a> {
     ghost use Rattle.std.specs.Prelude.{◌∷◌, [], ◌≡◌};
-    ghost use Rattle.page.specs.Page.{seen, blank, printed};
+    ghost use Rattle.page.specs.Page.{seen, blank, written_to, printed};
 
     // Nothing is written yet.
     pub fn new(bytes: &'a mut [u8]) -> Page<'a>
         ensures { seen result ≡ blank bytes.old bytes.entry.ghost_name }
     {
         Page { bytes, end: 0 }
+    }
+
+    // Written up to a place; to its end, where the place is past that: nothing fits there.
+    pub fn from(bytes: &'a mut [u8], at: usize) -> Page<'a>
+        ensures { seen result ≡ written_to at bytes.old bytes.entry.ghost_name }
+    {
+        let end = at.min(bytes.len());
+        Page { bytes, end }
     }
 
     pub fn written(&self) -> &[u8]

@@ -12,7 +12,7 @@ use states::State;
 pub fn follow(matched: bool, state: State, homed: bool, target: i32) -> Option<i32>
     ensures { result ≡ followed_of matched state homed target }
 {
-    (matched && state == State::OperationEnabled && homed).then_some(target)
+    (matched & (state == State::OperationEnabled) & homed).then_some(target)
 }
 
 // The target's count by the wide gear, which answers every target.

@@ -38,11 +38,11 @@ pub fn homing_on(wanted: Mode, mode: Mode, state: State) -> bool
 pub fn command_target(command: Command, mode: Mode, state: State, homed: bool) -> Option<i32>
     ensures { result ≡ target_of command (matched_of (mode_of command) mode) state homed }
 {
-    match command {
-        Command::Position(target, _) => {
-            let matched = modes::is_matched(Mode::Position, mode);
-            position::follow(matched, state, homed, target)
-        }
-        _ => None,
-    }
+    let matched = modes::is_matched(commands::mode(command), mode);
+    position::follow(
+        matched & (mode == Mode::Position),
+        state,
+        homed,
+        commands::position_target(command),
+    )
 }
