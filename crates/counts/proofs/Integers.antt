@@ -27,9 +27,6 @@ read_wide h = rw (to_z-of_z h) (to_z-of_z (widen h))
 pub read-unsigned : (n : ℕ) → n < 2 ^ 32 → to_z w64 n ≡ pos n
 read-unsigned n h = to_z_pos w64 n (omega arith)
 
-pub cast_fits : {z : ℤ} → SFits w32 z → SFits w64 (to_z w32 (of_z w32 z))
-cast_fits h = rw (to_z-of_z h) (widen h)
-
 -- a − b for naturals, by the test that it makes
 mag-cond : (t : Bool) (a b n : ℕ) → a < n → b ≤ n → mag (cond t (negsuc (b - suc a)) (pos (a - b))) < n
 mag-cond true a b n p q = omega arith
@@ -49,18 +46,9 @@ mag-neg (negsuc b) = omega arith
 pub mag-sub : (a b : ℤ) (n : ℕ) → mag a + mag b + 2 < n → mag (a -ℤ b) < n
 mag-sub a b n h = mag-add a (neg_ℤ b) n (omega (arith, mag-neg b))
 
--- a sum and a difference of two i32 fit an i64, also as the machine reads them
-pub add-fits : {a b : ℤ} → SFits w32 a → SFits w32 b → SFits w64 (a +ℤ b)
-add-fits {a} {b} h k = record { sfits = mag-add a b (2 ^ 63) (omega (arith, h.sfits, k.sfits)) }
-
+-- a difference of two i32 fits an i64
 pub sub-fits : {a b : ℤ} → SFits w32 a → SFits w32 b → SFits w64 (a -ℤ b)
 sub-fits {a} {b} h k = record { sfits = mag-sub a b (2 ^ 63) (omega (arith, h.sfits, k.sfits)) }
-
-pub add-read-fits : {a b : ℤ} → SFits w32 a → SFits w32 b → SFits w64 (wide a +ℤ wide b)
-add-read-fits h k = rw (read_wide h, read_wide k) (add-fits h k)
-
-pub sub-read-fits : {a b : ℤ} → SFits w32 a → SFits w32 b → SFits w64 (wide a -ℤ wide b)
-sub-read-fits h k = rw (read_wide h, read_wide k) (sub-fits h k)
 
 pub mag-neg-pos : (n : ℕ) → mag (neg_ℤ (pos n)) ≤ n
 mag-neg-pos zero = omega arith

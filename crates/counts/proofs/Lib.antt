@@ -3,4 +3,3 @@ pub mod Modulo
 pub mod Floor
 pub mod Between
 pub mod Fits
-pub mod Match

@@ -1,2 +1,4 @@
 pub mod Numbers
 pub mod Back
+pub mod Wide
+pub mod Match
