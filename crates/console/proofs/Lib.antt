@@ -1,3 +1,4 @@
 pub mod Replies
 pub mod Streams
 pub mod Inputs
+pub mod Ends

@@ -1,2 +1,3 @@
 pub mod Parts
 pub mod Ends
+pub mod Counting

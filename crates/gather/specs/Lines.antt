@@ -1,6 +1,6 @@
 -- A line's bytes as they come, whatever the reads cut them into. docs/LINES.md: "What is left, blanks and comment included, is at most 255 bytes."
 -- Assumes nothing.
-use Rattle.std.specs.Prelude.{ℕ, ◌+◌, ◌-◌, ◌≤◌, Bool, cond, List, ◌≡◌, eqb, ltb, length, take, drop, get_or, Option, Some, None}
+use Rattle.std.specs.Prelude.{ℕ, ◌+◌, ◌-◌, ◌≤◌, min, Bool, cond, List, ◌≡◌, eqb, ltb, length, take, drop, get_or, Option, Some, None}
 use Rattle.scan.specs.Bytes.{index_of}
 use Rattle.gather.specs.declared.Held.{Held}
 
@@ -8,6 +8,11 @@ use Rattle.gather.specs.declared.Held.{Held}
 -- were more than that
 pub record Keeps (line : List ℕ) (came : Option ℕ) (bs : List ℕ) : Type 0 where
   pub count : came ≡ cond (ltb (length line) (length bs)) None (Some (length bs))
+  pub bytes : take (length bs) line ≡ take (length line) bs
+
+-- the same with the count as a number, which stays one past the room for more
+pub record Counts (line : List ℕ) (n : ℕ) (bs : List ℕ) : Type 0 where
+  pub count : n ≡ min (length bs) (length line + 1)
   pub bytes : take (length bs) line ≡ take (length line) bs
 
 -- the same of a buffer with its count

@@ -2,7 +2,7 @@
 -- Assumes nothing.
 use Rattle.std.proofs.Common.{ℕ, List, ◌++◌, ◌+◌, ◌≡◌, take, drop, length}
 use Rattle.scan.specs.Bytes.{index_of}
-use Rattle.gather.specs.Lines.{Keeps}
+use Rattle.gather.specs.Lines.{Keeps, Counts}
 use Rattle.gather.proofs.take.Given as goal
 
 abbrev pub invariant-loop-i : goal.invariant-loop-i
@@ -10,5 +10,5 @@ invariant-loop-i l =
     record {
       place : index_of 10 l.chunk ≡ l.i + index_of 10 (drop l.i l.chunk);
       room : length l.line ≡ length l.initial.line;
-      keeps : (bs : List ℕ) → Keeps l.initial.line l.initial.came bs → Keeps l.line l.kept (bs ++ take l.i l.chunk);
+      counts : (bs : List ℕ) → Keeps l.initial.line l.initial.came bs → Counts l.line l.count (bs ++ take l.i l.chunk);
     }
