@@ -111,7 +111,7 @@ impl<'a> Cursor<'a> {
     pub fn end(&mut self) -> Result<(), Trouble>
         ensures { (result, place_of self.new) ≡ end_read (place_of self.old) }
     {
-        let accepted = self.at_end();
-        self.next().judge(accepted, Expected::End)
+        let word = self.next();
+        word.judge(word.at == self.text.len(), Expected::End)
     }
 }
